@@ -1,0 +1,5 @@
+pub mod BigEndian
+pub mod Cells
+pub mod Padding
+pub mod Splice
+pub mod Tests

@@ -1,0 +1,55 @@
+-- Laws of bytes written into a buffer: its length stays, a part that was lent comes back as a splice, and splices join.
+use mathlib.Core.Path.{_≡_, refl, sym, ap, _∙_}
+use mathlib.Core.List.{List, [], _∷_, _++_, append-assoc, append-nil}
+use Prim.Native.Nat.{ℕ, _+_, _-_, _≤_, _<_}
+use native.Mathlib.Nat.{zero-add}
+use native.Mathlib.Numerals.{add-one}
+use native.Mathlib.Omega.{arith}
+use lib.ListN.{length, take, drop, set, length-append, length-take, length-drop, drop-of-length-le}
+use lib.Seq.{sets, sets-eq, set-split, take-all, take-at, drop-at, drop-drop}
+use borrow.Rule.Slice.PartMut.{putMid}
+use Rattle.fdt_bytes.specs.Splice.{over, splice}
+
+-- stores of bs, one after the other, from the front
+pub sets-over : (bs xs : List ℕ) → length bs ≤ length xs → sets xs 0 bs ≡ over bs xs
+unfolding over
+sets-over bs xs h =
+    sets-eq bs xs 0 (rw zero-add h) ∙ ap (λ (n : ℕ). bs ++ drop n xs) (zero-add (length bs))
+
+pub length-over : (bs xs : List ℕ) → length bs ≤ length xs → length (over bs xs) ≡ length xs
+unfolding over
+length-over bs xs h = simp (length-append, length-drop) (omega arith)
+
+pub length-splice : (at : ℕ) (bs xs : List ℕ) → at + length bs ≤ length xs → length (splice at bs xs) ≡ length xs
+unfolding splice over
+length-splice at bs xs h = simp (length-append, length-take, length-drop) (omega arith)
+
+-- one splice after another, where the first ends
+pub splice-splice : (at to : ℕ) (bs cs xs : List ℕ) → at + length bs ≡ to → to ≤ length xs → splice to cs (splice at bs xs) ≡ splice at (bs ++ cs) xs
+unfolding splice over
+splice-splice at to bs cs xs e h =
+    let p = take at xs ++ bs in
+    let d = drop (length bs) (drop at xs) in
+    let l : length p ≡ to = length-append (take at xs) bs ∙ simp length-take (omega arith) in
+    let s : take at xs ++ (bs ++ d) ≡ p ++ d = sym (append-assoc (take at xs) bs d) in
+    let n : drop (length cs) d ≡ drop (length (bs ++ cs)) (drop at xs) =
+    drop-drop (length cs) (length bs) (drop at xs) ∙ ap (λ (k : ℕ). drop k (drop at xs)) (sym (length-append bs cs))
+    in
+    ap (λ (x : List ℕ). take to x ++ (cs ++ drop (length cs) (drop to x))) s
+    ∙ ap (λ (x : List ℕ). x ++ (cs ++ drop (length cs) (drop to (p ++ d)))) (take-at p d to l)
+    ∙ ap (λ (x : List ℕ). p ++ (cs ++ drop (length cs) x)) (drop-at p d to l)
+    ∙ ap (λ (x : List ℕ). p ++ (cs ++ x)) n
+    ∙ simp append-assoc
+
+-- a part that was lent from `at` on, and came back with bs over its front
+pub lent : (at : ℕ) (bs xs ys : List ℕ) → at ≤ length xs → ys ≡ over bs (take (length xs - at) (drop at xs)) → putMid at (length xs - at) xs ys ≡ splice at bs xs
+unfolding splice
+lent at bs xs ys h e =
+    let n : length (drop at xs) ≤ length xs - at = omega (arith, length-drop at xs) in
+    ap (λ (l : List ℕ). take at xs ++ (ys ++ l)) (drop-of-length-le (drop at xs) n)
+    ∙ ap (λ (l : List ℕ). take at xs ++ l) (append-nil ys ∙ e ∙ ap (over bs) (take-all (length xs - at) (drop at xs) n))
+
+-- one byte is a splice too
+pub set-splice : (at b : ℕ) (xs : List ℕ) → at < length xs → set xs at b ≡ splice at (b ∷ []) xs
+unfolding splice over
+set-splice at b xs h = set-split xs at b h ∙ ap (λ (l : List ℕ). take at xs ++ (b ∷ l)) (sym (drop-drop 1 at xs ∙ ap (λ (n : ℕ). drop n xs) (add-one at)))

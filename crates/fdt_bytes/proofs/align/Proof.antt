@@ -1,0 +1,24 @@
+-- `align` meets its contract: the zeros are as many as `padding_of` answers.
+use mathlib.Core.Path.{ap, _∙_}
+use Prim.Native.Nat.{ℕ}
+use Rattle.fdt_bytes.specs.Padding.{zeros}
+use Rattle.fdt_bytes.specs.Splice.{over}
+use borrow.Author.Needs.{needs}
+use Rattle.fdt_bytes.proofs.align.Statement.{statement}
+use Rattle.fdt_bytes.proofs.align.Tie as tie
+
+padding-of-requires : tie.Need-padding-of-requires
+padding-of-requires c κs = search needs
+
+pad-requires : tie.Need-pad-requires
+pad-requires c κs = search needs
+
+same-length : tie.Need-same-length
+same-length c = search needs
+
+returns : tie.Need-returns
+returns c =
+    c .before .before .pad .ensures ∙ ap (λ (n : ℕ). over (zeros n) (c .before .before .before .before .before .before .args .rest .now)) (c .before .before .before .padding-of .ensures)
+
+pub align-spec : {M : Type 1} → statement M
+align-spec = tie.close (tie.spec padding-of-requires pad-requires same-length returns)

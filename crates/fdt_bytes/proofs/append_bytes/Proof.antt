@@ -1,0 +1,26 @@
+-- `append_bytes` meets its contract: what `copy` ensures is the bytes over the front.
+use mathlib.Core.Path.{ap, _∙_}
+use mathlib.Core.List.{List, _++_}
+use Prim.Native.Nat.{ℕ}
+use lib.ListN.{length, drop}
+use lib.Seq.{take-length}
+use Rattle.fdt_bytes.specs.Splice.{over}
+use borrow.Author.Needs.{needs}
+use Rattle.fdt_bytes.proofs.append_bytes.Statement.{statement}
+use Rattle.fdt_bytes.proofs.append_bytes.Tie as tie
+
+copy-requires : tie.Need-copy-requires
+copy-requires c κs = search needs
+
+same-length : tie.Need-same-length
+same-length c = search needs
+
+returns : tie.Need-returns
+unfolding over
+returns c =
+    let val = c .before .before .before .before .before .before .args .val .now in
+    let rest = c .before .before .before .before .before .before .args .rest .now in
+    c .before .before .copy .ensures .1 ∙ ap (λ (l : List ℕ). l ++ drop (length val) rest) (take-length val)
+
+pub append-bytes-spec : {M : Type 1} → statement M
+append-bytes-spec = tie.close (tie.spec copy-requires same-length returns)
