@@ -1,0 +1,98 @@
+-- Laws of `specs/Grammar.antt`: what `inTwo` means, what a loop over every byte tests, and a word taken apart at its first byte.
+use Prim.Native.Nat.{ℕ, suc, _+_, _<_}
+use native.Mathlib.Numerals.{add-one}
+use mathlib.Core.Path.{_≡_, refl, ap, _∙_}
+use mathlib.Core.Bool.{Bool, true, false, _&&_, _||_, and-eq-true-iff, and-false, or-false, or-true}
+use mathlib.Core.List.{List, [], _∷_, _++_}
+use mathlib.Core.Logic.{_⊎_, inl, inr, _↔_}
+use lib.Dec.{leb, leb·zero, leb·suc-zero, leb·suc-suc, eqb·suc-zero}
+use lib.ListN.{length, drop, getD}
+use lib.Seq.{drop-cons}
+use Rattle.fdt_names.specs.Grammar.{Grammar, nothing, fromTo, _then_, _or_, all, inTwo, word}
+
+-- s in two parts, of which the first passes p and the rest passes q
+pub record Cut (p q : List ℕ → Bool) (s : List ℕ) : Type 0 where
+  pub front : List ℕ
+  pub back : List ℕ
+  pub joined : s ≡ front ++ back
+  pub passes-p : p front ≡ true
+  pub passes-q : q back ≡ true
+
+either : (a b : Bool) → (a || b) ≡ true → (a ≡ true) ⊎ (b ≡ true)
+either true b h = inl refl
+either false b h = inr h
+
+cut : (p q : List ℕ → Bool) (s : List ℕ) → inTwo p q s ≡ true → Cut p q s
+unfolding inTwo
+cut p q [] h =
+    let w = and-eq-true-iff (p []) (q []) .0 h in
+    record { front = []; back = []; joined = refl; passes-p = w .0; passes-q = w .1 }
+cut p q (b ∷ s) h = elim (either (p [] && q (b ∷ s)) (inTwo (λ front. p (b ∷ front)) q s) h) [
+  | inl here ↦
+      let w = and-eq-true-iff (p []) (q (b ∷ s)) .0 here in
+      record { front = []; back = b ∷ s; joined = refl; passes-p = w .0; passes-q = w .1 }
+  | inr later ↦
+      let w = cut (λ front. p (b ∷ front)) q s later in
+      record { front = b ∷ w .front; back = w .back; joined = ap (λ l. b ∷ l) (w .joined); passes-p = w .passes-p; passes-q = w .passes-q }
+]
+
+uncut : (p q : List ℕ → Bool) (a b : List ℕ) → p a ≡ true → q b ≡ true → inTwo p q (a ++ b) ≡ true
+unfolding inTwo
+uncut p q [] [] e f = simp (e, f)
+uncut p q [] (x ∷ b) e f = simp (e, f)
+uncut p q (x ∷ a) b e f = simp (uncut (λ front. p (x ∷ front)) q a b e f, or-true)
+
+-- `inTwo` says what its comment says
+pub inTwo-means : (p q : List ℕ → Bool) (s : List ℕ) → inTwo p q s ≡ true ↔ Cut p q s
+inTwo-means p q s = (
+  cut p q s,
+  λ c. rw (c .joined) (uncut p q (c .front) (c .back) (c .passes-p) (c .passes-q)),
+)
+
+inTwo-none : (q : List ℕ → Bool) (s : List ℕ) → inTwo (λ front. false) q s ≡ false
+unfolding inTwo
+inTwo-none q [] = refl
+inTwo-none q (b ∷ s) = inTwo-none q s
+
+-- a test that the front does not decide may be made first
+inTwo-and : (t : Bool) (p q : List ℕ → Bool) (s : List ℕ) → inTwo (λ front. t && p front) q s ≡ (t && inTwo p q s)
+inTwo-and true p q s = refl
+inTwo-and false p q s = inTwo-none q s
+
+pub and-swap : (c a d : Bool) → (a && (c && d)) ≡ (c && (a && d))
+and-swap true a d = refl
+and-swap false a d = and-false a
+
+-- every byte of the class, at the byte that a loop at i tests
+pub all-next :
+    (class : ℕ → Bool) (s : List ℕ) (i : ℕ) →
+    i < length s →
+    all class (drop i s) ≡ (class (getD s i 0) && all class (drop (i + 1) s))
+unfolding all
+all-next class s i h = rw (drop-cons s i 0 h, add-one)
+
+-- bytes of a class and then a word of g
+module _ (class : ℕ → Bool) (g : Grammar) where
+  pub none-then : (s : List ℕ) → word (fromTo 0 0 class then g) s ≡ word g s
+  unfolding word inTwo all
+  none-then [] = refl
+  none-then (b ∷ s) = simp (leb·zero, leb·suc-zero) (ap (λ t. word g (b ∷ s) || t) (inTwo-none (word g) s) ∙ or-false _)
+
+  first-then :
+      (l m b : ℕ) (s : List ℕ) →
+      word (fromTo (suc l) (suc m) class then g) (b ∷ s) ≡ (class b && word (fromTo l m class then g) s)
+  unfolding word inTwo all
+  first-then l m b s =
+      simp (leb·suc-zero, leb·suc-suc, and-swap (class b)) (inTwo-and (class b) (word (fromTo l m class)) (word g) s)
+
+  pub more-then :
+      (m b : ℕ) (s : List ℕ) →
+      word (fromTo 0 (suc m) class then g) (b ∷ s) ≡ (word g (b ∷ s) || (class b && word (fromTo 0 m class then g) s))
+  unfolding word inTwo all
+  more-then m b s =
+      simp (leb·zero, leb·suc-suc, and-swap (class b))
+      (ap (λ t. word g (b ∷ s) || t) (inTwo-and (class b) (λ front. leb (length front) m && all class front) (word g) s))
+
+  pub one-then : (b : ℕ) (s : List ℕ) → word (nothing or fromTo 1 1 class then g) (b ∷ s) ≡ (class b && word g s)
+  unfolding word
+  one-then b s = simp eqb·suc-zero (first-then 0 0 b s ∙ ap (λ t. class b && t) (none-then s))

@@ -1,0 +1,95 @@
+-- Laws of `specs/Names.antt`: one of a list of bytes as `bytes::scan::find` finds it, and a node name cut at its first @.
+use Prim.Native.Nat.{ℕ, zero, suc, _+_, _-_, _<_}
+use native.Mathlib.Nat.{zero-add}
+use native.Mathlib.Numerals.{add-one, one-add}
+use native.Mathlib.Omega.{arith}
+use mathlib.Core.Path.{_≡_, refl, sym, _∙_}
+use mathlib.Core.Bool.{Bool, true, false, not, _&&_, _||_, or-false, and-assoc}
+use mathlib.Core.List.{List, [], _∷_}
+use lib.Dec.{eqb, leb, ltb, leb·zero, leb·suc-zero, leb·suc-suc}
+use lib.ListN.{length, getD, take, drop}
+use lib.Seq.{take-length}
+use borrow.Author.Tests.{eqb-true}
+use Rattle.bytes.specs.Bytes.{indexAfter, indexOf, slice}
+use Rattle.fdt_names.specs.Grammar.{Grammar, nothing, fromTo, any, _then_, _or_, all, inTwo, word}
+use Rattle.fdt_names.specs.Names.{is, oneOf, letter, digit, nameByte, nodeByte, nodeName, unitAddress, hasZero}
+use Rattle.fdt_names.proofs.Grammar.{and-swap, none-then, more-then, one-then}
+
+index-after : (t : Bool) (k n : ℕ) → ltb (indexAfter t k) (suc n) ≡ (t || ltb k n)
+unfolding indexAfter
+index-after true k n = leb·suc-suc 0 n ∙ leb·zero n
+index-after false k n = leb·suc-suc (suc k) n
+
+index-of : (b : ℕ) (s : List ℕ) → ltb (indexOf b s) (length s) ≡ oneOf s b
+unfolding indexOf oneOf
+index-of b [] = refl
+index-of b (x ∷ s) = index-after (eqb x b) (indexOf b s) (length s) ∙ rw (index-of b s)
+
+slice-to-end : (i : ℕ) (s : List ℕ) → slice i (length s) s ≡ drop i s
+unfolding slice
+slice-to-end i s = rw take-length
+
+-- what `find` tells of the whole of s
+pub found : (b : ℕ) (s : List ℕ) {r : ℕ} → r ≡ 0 + indexOf b (slice 0 (length s) s) → ltb r (length s) ≡ oneOf s b
+found b s e = simp (e, zero-add, slice-to-end 0 s) (index-of b s)
+
+not-and : (a b : Bool) → not (not a && b) ≡ (a || not b)
+not-and true b = refl
+not-and false b = refl
+
+pub has-zero : (s : List ℕ) → oneOf s 0 ≡ hasZero s
+unfolding oneOf hasZero all
+has-zero [] = refl
+has-zero (b ∷ s) = sym (not-and (eqb b 0) _ ∙ rw (← has-zero s))
+
+-- what may follow the first byte of a node name, with room for m bytes before the @
+unfoldable rest : ℕ → Grammar
+rest m = fromTo 0 m nodeByte then (nothing or unitAddress)
+
+-- such a rest, with k bytes before its first @ or its end
+unfoldable parts : ℕ → ℕ → List ℕ → Bool
+parts m k s = leb k m && (all nodeByte (take k s) && all nodeByte (drop (suc k) s))
+
+address : (b : ℕ) (s : List ℕ) → word (nothing or unitAddress) (b ∷ s) ≡ (is 64 b && all nodeByte s)
+unfolding unitAddress word
+address b s = one-then (is 64) (any nodeByte) b s
+
+rest-full : (b : ℕ) (s : List ℕ) → word (rest 0) (b ∷ s) ≡ (is 64 b && all nodeByte s)
+unfolding rest
+rest-full b s = none-then nodeByte (nothing or unitAddress) (b ∷ s) ∙ address b s
+
+rest-room : (m b : ℕ) (s : List ℕ) → word (rest (suc m)) (b ∷ s) ≡ (is 64 b && all nodeByte s || nodeByte b && word (rest m) s)
+unfolding rest
+rest-room m b s = more-then nodeByte (nothing or unitAddress) m b s ∙ rw address
+
+rest-at : (m : ℕ) (s : List ℕ) → word (rest m) (64 ∷ s) ≡ parts m 0 (64 ∷ s)
+unfolding parts all is nodeByte nameByte letter digit oneOf
+rest-at zero s = rest-full 64 s
+rest-at (suc m) s = rest-room m 64 s ∙ simp (or-false, leb·zero)
+
+module _ (b : ℕ) (s : List ℕ) (by-parts : (m : ℕ) → word (rest m) s ≡ parts m (indexOf 64 s) s) where
+  at-first : (t : Bool) → eqb b 64 ≡ t → (m : ℕ) → word (rest m) (b ∷ s) ≡ parts m (indexAfter t (indexOf 64 s)) (b ∷ s)
+  unfolding indexAfter parts all is
+  at-first true e m = rw (eqb-true b 64 e) (rest-at m s)
+  at-first false e zero = rest-full b s ∙ simp (e, leb·suc-zero)
+  at-first false e (suc m) =
+      rest-room m b s ∙ simp (e, by-parts m, leb·suc-suc, and-assoc, and-swap (leb (indexOf 64 s) m))
+
+rest-parts : (s : List ℕ) (m : ℕ) → word (rest m) s ≡ parts m (indexOf 64 s) s
+unfolding indexOf parts rest word inTwo all
+rest-parts [] m = simp leb·zero
+rest-parts (b ∷ s) m = at-first b s (rest-parts s) (eqb b 64) refl m
+
+-- a node name, cut where `find` finds its first @ or its end
+pub name-parts :
+    (s : List ℕ) {at : ℕ} →
+    0 < length s →
+    at ≡ 1 + indexOf 64 (slice 1 (length s) s) →
+    word nodeName s ≡ (letter (getD s 0 0) && (leb at 31 && (all nodeByte (take (at - 1) (drop 1 s)) && all nodeByte (drop (at + 1) s))))
+unfolding nodeName rest parts
+name-parts [] h e = absurd (omega arith)
+name-parts (b ∷ s) {at} h e =
+    let k = indexOf 64 s in
+    let found : at ≡ suc k = e ∙ rw (slice-to-end 1 (b ∷ s), one-add) in
+    let before : suc k - 1 ≡ k = omega arith in
+    one-then letter (rest 30) b s ∙ simp (rest-parts, found, before, add-one, leb·suc-suc k 30)

@@ -1,0 +1,19 @@
+-- What a branch on the answer t of a call tells of the test u that the call decided, where a definition goes on with a test v.
+use mathlib.Core.Path.{_≡_, sym, _∙_}
+use mathlib.Core.Bool.{Bool, true, false, not, _&&_, _||_}
+use borrow.Author.Tests.{not-true, not-false}
+
+module _ {t u : Bool} (answer : t ≡ u) (v : Bool) where
+  -- `if !f(x)`
+  pub and-no : not t ≡ true → (u && v) ≡ false
+  and-no h = simp (sym answer ∙ not-true t h)
+
+  pub and-yes : not t ≡ false → (u && v) ≡ v
+  and-yes h = simp (sym answer ∙ not-false t h)
+
+  -- `f(x) || ..`
+  pub or-yes : t ≡ true → t ≡ (u || v)
+  or-yes h = simp (sym answer ∙ h) h
+
+  pub or-no : {s : Bool} → t ≡ false → s ≡ v → s ≡ (u || v)
+  or-no h e = simp (sym answer ∙ h) e

@@ -1,0 +1,39 @@
+-- A small language of grammars over bytes, and when bytes are a word of a grammar.
+use Prim.Native.Nat.{ℕ}
+use mathlib.Core.Bool.{Bool, true, _&&_, _||_}
+use mathlib.Core.List.{List, [], _∷_}
+use lib.ListN.{length}
+use lib.Dec.{eqb, leb}
+
+infixr 30 _then_
+infixr 20 _or_
+-- what a grammar is made of; a class of bytes is a test of one byte
+pub data Grammar : Type 0 where
+  -- no byte at all
+  nothing : Grammar
+  -- at least so many and at most so many bytes of a class
+  fromTo : ℕ → ℕ → (ℕ → Bool) → Grammar
+  -- any number of bytes of a class
+  any : (ℕ → Bool) → Grammar
+  -- a word of the one and then a word of the other
+  _then_ : Grammar → Grammar → Grammar
+  -- a word of the one or a word of the other
+  _or_ : Grammar → Grammar → Grammar
+
+-- every byte is of the class
+unfoldable pub all : (ℕ → Bool) → List ℕ → Bool
+all class [] = true
+all class (b ∷ s) = class b && all class s
+
+-- s can be cut in two so that the first part passes p and the rest passes q
+unfoldable pub inTwo : (List ℕ → Bool) → (List ℕ → Bool) → List ℕ → Bool
+inTwo p q [] = p [] && q []
+inTwo p q (b ∷ s) = (p [] && q (b ∷ s)) || inTwo (λ front. p (b ∷ front)) q s
+
+-- the bytes are a word of the grammar
+unfoldable pub word : Grammar → List ℕ → Bool
+word nothing s = eqb (length s) 0
+word (fromTo least most class) s = leb least (length s) && (leb (length s) most && all class s)
+word (any class) s = all class s
+word (g then h) s = inTwo (word g) (word h) s
+word (g or h) s = word g s || word h s
