@@ -1,0 +1,116 @@
+-- `check_overlapping` meets its contract: each reservation that was passed is clear of all after it, and a pair that is not is an overlap.
+use mathlib.Core.Path.{_≡_, refl, sym, _∙_}
+use mathlib.Core.Bool.{true, false, true≢false}
+use Prim.Native.Nat.{ℕ, _-_, _/_, _≤_, _<_}
+use borrow.Author.Count.{below-more}
+use lib.ListN.{length}
+use Rattle.fdt_reserve.proofs.Overlap.{meets, meets-entries, Clear, clear-none, clear-more, clash, apart}
+use borrow.Author.Needs.{needs}
+use native.Mathlib.Omega.{arith}
+use Rattle.fdt_reserve.proofs.check_overlapping.Statement.{statement}
+use Rattle.fdt_reserve.proofs.check_overlapping.Tie as tie
+
+abbrev Inv-loop : tie.InvT-loop
+Inv-loop mem-reservations n overlapping₀ i one j₀ overlapping j = (i < j) × (j ≤ n) × (overlapping ≡ false) × Clear mem-reservations i j
+
+abbrev μ-loop : tie.MeasureT-loop
+μ-loop mem-reservations n overlapping₀ i one j₀ overlapping j = n - j
+
+abbrev Inv-pairs : tie.InvT-pairs
+Inv-pairs mem-reservations n overlapping₀ i₀ overlapping i = (i ≤ n) × (overlapping ≡ false) × ((k : ℕ) → k < i → Clear mem-reservations k n)
+
+abbrev μ-pairs : tie.MeasureT-pairs
+μ-pairs mem-reservations n overlapping₀ i₀ overlapping i = n - i
+
+-- what the test of a pair tells
+tried :
+    (c : tie.After-share-address Inv-loop μ-loop Inv-pairs μ-pairs) →
+    let start = c .before .before .before .before .before .before in
+    c .share-address .result ≡ meets (start .before .before .args .mem-reservations .now) (start .pairs .i) (c .before .before .before .loop .j)
+tried c = meets-entries _ _ _ _ _ _ (c .share-address .ensures) (c .before .before .before .before .entry-at .ensures) (c .before .entry-at2 .ensures)
+
+pairs-holds : tie.Need-pairs-holds Inv-loop μ-loop Inv-pairs μ-pairs
+pairs-holds c = (omega arith, refl, λ k h. absurd (omega arith))
+
+entry-at-requires : tie.Need-entry-at-requires Inv-loop μ-loop Inv-pairs μ-pairs
+entry-at-requires c κs = omega arith
+
+add-j : tie.Need-add-j Inv-loop μ-loop Inv-pairs μ-pairs
+add-j c = omega arith
+
+loop-holds : tie.Need-loop-holds Inv-loop μ-loop Inv-pairs μ-pairs
+loop-holds c = (omega arith, omega arith, c .before .before .pairs .inv .1, clear-none (c .before .before .before .before .args .mem-reservations .now) (c .before .before .pairs .i))
+
+entry-at-requires-2 : tie.Need-entry-at-requires-2 Inv-loop μ-loop Inv-pairs μ-pairs
+entry-at-requires-2 c κs = omega arith
+
+share-address-requires : tie.Need-share-address-requires Inv-loop μ-loop Inv-pairs μ-pairs
+share-address-requires c κs = search needs
+
+add-j-2 : tie.Need-add-j-2 Inv-loop μ-loop Inv-pairs μ-pairs
+add-j-2 c = omega arith
+
+loop-less : tie.Need-loop-less Inv-loop μ-loop Inv-pairs μ-pairs
+loop-less c = omega arith
+
+loop-again : tie.Need-loop-again Inv-loop μ-loop Inv-pairs μ-pairs
+loop-again c =
+    let l = c .before .before .before .before .loop in (
+      omega arith,
+      omega arith,
+      l .inv .2,
+      clear-more (c .before .before .before .before .before .before .before .before .before .args .mem-reservations .now) (c .before .before .before .before .before .before .before .pairs .i) (l .j) (l .inv .3) (sym (tried (c .before)) ∙ c .if1 .left),
+    )
+
+add-i : tie.Need-add-i Inv-loop μ-loop Inv-pairs μ-pairs
+add-i c = omega arith
+
+pairs-less : tie.Need-pairs-less Inv-loop μ-loop Inv-pairs μ-pairs
+pairs-less c = omega arith
+
+pairs-again : tie.Need-pairs-again Inv-loop μ-loop Inv-pairs μ-pairs
+pairs-again c =
+    let numbers = c .before .before .before .before .before .before .args .mem-reservations .now in (
+      omega arith,
+      c .before .loop .inv .2,
+      below-more (λ (k : ℕ). Clear numbers k (length numbers / 2)) (c .before .before .before .before .pairs .i) (c .before .before .before .before .pairs .inv .2)
+          (λ l p q. c .before .loop .inv .3 l p (omega arith)),
+    )
+
+returns : tie.Need-returns Inv-loop μ-loop Inv-pairs μ-pairs
+returns c =
+    let p = c .before .pairs in (
+      λ e. absurd (true≢false (sym e ∙ p .inv .1)),
+      λ o. absurd (apart (c .before .before .before .args .mem-reservations .now) (λ k h. p .inv .2 k (omega arith)) o),
+    )
+
+returns-2 : tie.Need-returns-2 Inv-loop μ-loop Inv-pairs μ-pairs
+returns-2 c =
+    let i = c .before .before .before .before .before .before .before .pairs .i in
+    let j = c .before .before .before .before .loop .j in (
+      λ e. clash (c .before .before .before .before .before .before .before .before .before .args .mem-reservations .now) i j (λ q. absurd (omega arith)) (sym (tried (c .before)) ∙ c .if1 .taken),
+      λ o. refl,
+    )
+
+pub check-overlapping-spec : {M : Type 1} → statement M
+check-overlapping-spec =
+    tie.close
+    (tie.spec
+    Inv-loop
+    μ-loop
+    Inv-pairs
+    μ-pairs
+    pairs-holds
+    entry-at-requires
+    add-j
+    loop-holds
+    entry-at-requires-2
+    share-address-requires
+    add-j-2
+    loop-less
+    loop-again
+    add-i
+    pairs-less
+    pairs-again
+    returns
+    returns-2)
