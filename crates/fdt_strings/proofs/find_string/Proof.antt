@@ -1,0 +1,81 @@
+-- `find_string` meets its contract. The invariant: what the strings have is the first entry from `start` on that is the name. The measure is what is left.
+use mathlib.Core.Path.{_≡_, refl, sym, _∙_}
+use mathlib.Core.Bool.{true≢false}
+use Prim.Native.Nat.{_≤_, _-_}
+use native.Mathlib.Omega.{arith}
+use borrow.Author.Needs.{needs}
+use lib.ListN.{length, drop}
+use Rattle.fdt_strings.specs.Entries.{entries, firstFrom, findString}
+use Rattle.fdt_strings.proofs.Entries.{first-end, first-none, first-here, first-later}
+use Rattle.fdt_strings.proofs.find_string.Statement.{statement}
+use Rattle.fdt_strings.proofs.find_string.Tie as tie
+
+abbrev Inv-loop : tie.InvT-loop
+Inv-loop strings name start₀ start = (start ≤ length strings) × (findString strings name ≡ firstFrom start (entries (drop start strings)) name)
+
+abbrev μ-loop : tie.MeasureT-loop
+μ-loop strings name start₀ start = length strings - start
+
+loop-holds : tie.Need-loop-holds Inv-loop μ-loop
+unfolding findString
+loop-holds c = (omega arith, refl)
+
+find-requires : tie.Need-find-requires Inv-loop μ-loop
+find-requires c κs = search needs
+
+returns : tie.Need-returns Inv-loop μ-loop
+returns c =
+    let l = c .before .before .before .loop in
+    sym (l .inv .1 ∙ first-none _ _ _ _ (c .before .find .ensures .0) (l .inv .0) (c .if1 .taken))
+
+sub-same : tie.Need-sub-same Inv-loop μ-loop
+sub-same c = search needs
+
+part-same-start : tie.Need-part-same-start Inv-loop μ-loop
+part-same-start c = search needs
+
+part-same-end : tie.Need-part-same-end Inv-loop μ-loop
+part-same-end c = search needs
+
+same-requires : tie.Need-same-requires Inv-loop μ-loop
+same-requires c κs = search needs
+
+returns-2 : tie.Need-returns-2 Inv-loop μ-loop
+returns-2 c =
+    let l = c .before .before .before .before .before .before .loop in
+    let f = c .before .before .before .before .find in
+    sym (l .inv .1 ∙ first-here _ _ _ _ (f .ensures .0) (l .inv .0) (omega arith) (c .before .same .ensures .0 (c .if2 .taken)))
+
+add-start : tie.Need-add-start Inv-loop μ-loop
+add-start c = search needs
+
+loop-less : tie.Need-loop-less Inv-loop μ-loop
+loop-less c = search needs
+
+loop-again : tie.Need-loop-again Inv-loop μ-loop
+loop-again c =
+    let l = c .before .before .before .before .before .before .loop in
+    let f = c .before .before .before .before .find in
+    (omega arith, l .inv .1 ∙ first-later _ _ _ _ (f .ensures .0) (l .inv .0) (omega arith) (λ p. true≢false (sym (c .before .same .ensures .1 p) ∙ c .if2 .left)))
+
+returns-3 : tie.Need-returns-3 Inv-loop μ-loop
+returns-3 c = sym (c .before .loop .inv .1 ∙ first-end _ _ _ (c .loop-test .left))
+
+pub find-string-spec : {M : Type 1} → statement M
+find-string-spec =
+    tie.close
+    (tie.spec
+    Inv-loop
+    μ-loop
+    loop-holds
+    find-requires
+    returns
+    sub-same
+    part-same-start
+    part-same-end
+    same-requires
+    returns-2
+    add-start
+    loop-less
+    loop-again
+    returns-3)

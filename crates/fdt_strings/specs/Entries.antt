@@ -1,0 +1,38 @@
+-- The strings area as entries, each ended by a 0: "A name is found only as a whole entry, and the first such entry counts" (document 01, "The bytes").
+use Prim.Native.Nat.{ℕ, _+_}
+use mathlib.Core.Bool.{Bool, true, false, cond, _&&_}
+use mathlib.Core.List.{List, [], _∷_, _++_}
+use lib.ListN.{length}
+use lib.Dec.{eqb}
+use Rattle.fdt_strings.specs.declared.Found.{Found}
+use Rattle.fdt_strings.specs.declared.Found.the-variants.{At, Nothing}
+
+-- a name with its 0, as it is stored
+unfoldable pub entry : List ℕ → List ℕ
+entry name = name ++ (0 ∷ [])
+
+-- a byte in front of the first entry; where no 0 follows there is no entry for it
+unfoldable pub inFront : ℕ → List (List ℕ) → List (List ℕ)
+inFront b [] = []
+inFront b (e ∷ es) = (b ∷ e) ∷ es
+
+-- the entries in order, each without the 0 that ends it; bytes after the last 0 are none
+unfoldable pub entries : List ℕ → List (List ℕ)
+entries [] = []
+entries (b ∷ s) = cond (eqb b 0) ([] ∷ entries s) (inFront b (entries s))
+
+-- the same bytes
+unfoldable pub same : List ℕ → List ℕ → Bool
+same [] [] = true
+same [] (c ∷ t) = false
+same (b ∷ s) [] = false
+same (b ∷ s) (c ∷ t) = eqb b c && same s t
+
+-- the offset of the first of the entries that is the name, where the first of them stands at `offset`
+unfoldable pub firstFrom : ℕ → List (List ℕ) → List ℕ → Found
+firstFrom offset [] name = Nothing
+firstFrom offset (e ∷ es) name = cond (same e name) (At offset) (firstFrom (offset + (length e + 1)) es name)
+
+-- where the strings have the name
+unfoldable pub findString : List ℕ → List ℕ → Found
+findString strings name = firstFrom 0 (entries strings) name
