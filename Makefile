@@ -1,0 +1,17 @@
+# `make test` is the merge gate. tools/test has its steps.
+
+.PHONY: help test steps
+
+help:
+	@echo 'make test                the merge gate: its last line is N passed, 0 failed'
+	@echo 'tools/promises           that what docs/PROMISES.md cites is there, and what is not yet shown'
+	@echo 'tools/moved OLD NEW      what moved between two git revisions'
+	@echo 'tools/check-time [LOG]   how long rt ci takes, crate by crate'
+
+# tools/test leaves the name of a step that failed in build/failed, and the last line that make prints says it.
+test: steps
+	@$(if $(shell cat build/failed 2>/dev/null),$(error make test: failed: $(shell cat build/failed)),:)
+
+steps:
+	@rm -f build/failed
+	@tools/test build/failed || test -s build/failed
