@@ -53,3 +53,10 @@ lent at bs xs ys h e =
 pub set-splice : (at b : ℕ) (xs : List ℕ) → at < length xs → set xs at b ≡ splice at (b ∷ []) xs
 unfolding splice over
 set-splice at b xs h = set-split xs at b h ∙ ap (λ (l : List ℕ). take at xs ++ (b ∷ l)) (sym (drop-drop 1 at xs ∙ ap (λ (n : ℕ). drop n xs) (add-one at)))
+
+-- three splices, each where the one before ends
+pub splice-three : (at to then : ℕ) (bs cs ds xs : List ℕ) → at + length bs ≡ to → to + length cs ≡ then → then ≤ length xs → splice then ds (splice to cs (splice at bs xs)) ≡ splice at (bs ++ (cs ++ ds)) xs
+splice-three at to then bs cs ds xs e f h =
+    ap (splice then ds) (splice-splice at to bs cs xs e (omega arith))
+    ∙ splice-splice at then (bs ++ cs) ds xs (omega (arith, length-append bs cs)) h
+    ∙ ap (λ (l : List ℕ). splice at l xs) (append-assoc bs cs ds)
