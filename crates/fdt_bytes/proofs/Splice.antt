@@ -5,8 +5,8 @@ use Prim.Native.Nat.{ℕ, _+_, _-_, _≤_, _<_}
 use native.Mathlib.Nat.{zero-add}
 use native.Mathlib.Numerals.{add-one}
 use native.Mathlib.Omega.{arith}
-use lib.ListN.{length, take, drop, set, length-append, length-take, length-drop, drop-of-length-le}
-use lib.Seq.{sets, sets-eq, set-split, take-all, take-at, drop-at, drop-drop}
+use lib.ListN.{length, take, drop, set, getD, List·getD-append, length-append, length-take, length-drop, drop-of-length-le}
+use lib.Seq.{sets, sets-eq, set-split, take-all, take-at, drop-at, drop-drop, length-take-le, getD-append-add, getD-take, getD-drop}
 use borrow.Rule.Slice.PartMut.{putMid}
 use Rattle.fdt_bytes.specs.Splice.{over, splice}
 
@@ -60,3 +60,25 @@ splice-three at to then bs cs ds xs e f h =
     ap (splice then ds) (splice-splice at to bs cs xs e (omega arith))
     ∙ splice-splice at then (bs ++ cs) ds xs (omega (arith, length-append bs cs)) h
     ∙ ap (λ (l : List ℕ). splice at l xs) (append-assoc bs cs ds)
+
+-- Bytes outside a splice are as they were.
+module _ (at i : ℕ) (bs xs : List ℕ) (room : at + length bs ≤ length xs) where
+  pub splice-before : i < at → getD (splice at bs xs) i 0 ≡ getD xs i 0
+  unfolding splice over
+  splice-before h =
+      let n : length (take at xs) ≡ at = length-take-le at xs (omega arith) in
+      List·getD-append (take at xs) (bs ++ drop (length bs) (drop at xs)) 0 i (omega arith) ∙ getD-take at xs i 0 h
+
+  pub splice-behind : at + length bs ≤ i → getD (splice at bs xs) i 0 ≡ getD xs i 0
+  unfolding splice over
+  splice-behind h =
+      let n : length (take at xs) ≡ at = length-take-le at xs (omega arith) in
+      let k = i - (at + length bs) in
+      let e : i ≡ length (take at xs) + (length bs + k) = omega arith in
+      let d = drop (length bs) (drop at xs) in
+      ap (λ (j : ℕ). getD (take at xs ++ (bs ++ d)) j 0) e
+      ∙ getD-append-add (take at xs) (bs ++ d) (length bs + k) 0
+      ∙ getD-append-add bs d k 0
+      ∙ getD-drop (length bs) (drop at xs) k 0
+      ∙ getD-drop at xs (length bs + k) 0
+      ∙ ap (λ (j : ℕ). getD xs j 0) (let f : at + (length bs + k) ≡ i = omega arith in f)

@@ -1,14 +1,17 @@
 -- Exactly when a reservation is refused 8, and what it is otherwise, from the two tests of its definition.
-use mathlib.Core.Path.{_≡_, refl}
+use mathlib.Core.Path.{_≡_, refl, sym, ap, _∙_}
 use mathlib.Core.Bool.{Bool, true, false, cond, _||_}
-use mathlib.Core.List.{[], _∷_}
+use mathlib.Core.List.{List, [], _∷_}
 use mathlib.Core.Logic.{_↔_, _⊎_, inl, inr}
 use Prim.Native.Nat.{ℕ, _+_, _^_, _≤_}
 use native.Mathlib.Omega.{arith}
 use borrow.Author.Tests.{eq-eqb, eqb-true, eqb-false, le-leb, leb-true, leb-false}
 use lib.Dec.{eqb, leb}
+use Rattle.fdt_reserve.specs.declared.FdtReserveEntry.{FdtReserveEntry}
+use Rattle.fdt_reserve.specs.declared.Reserved.{Reserved}
 use Rattle.fdt_reserve.specs.declared.Reserved.the-variants.{Entry, InvalidMemoryReservation}
 use Rattle.fdt_reserve.specs.Entry.{invalid, reserved, numberOf, valuesOf}
+use Rattle.fdt_reserve.specs.Overlap.{start, size, entryAt}
 
 module _ (address size : ℕ) where
   -- refused 8 exactly when the size is 0 or address + size is at least 2^64
@@ -35,3 +38,24 @@ module _ (address size : ℕ) where
           → valuesOf (cond b InvalidMemoryReservation (Entry (record { address = address; size = size }))) ≡ address ∷ size ∷ []
       go true h = absurd (omega arith)
       go false h = refl
+
+-- What making the reservation at an index answered.
+module _ (numbers : List ℕ) (k : ℕ) (entry : FdtReserveEntry) (answer : Reserved) (read : entry ≡ entryAt numbers k) (made : answer ≡ reserved (entry .address) (entry .size)) where
+  -- the definition's answer, by its test
+  made-by : answer ≡ cond (invalid (start numbers k) (size numbers k)) InvalidMemoryReservation (Entry (entryAt numbers k))
+  unfolding reserved entryAt
+  made-by = made ∙ ap (λ (e : FdtReserveEntry). reserved (e .address) (e .size)) read
+
+  pub refused-invalid : answer ≡ InvalidMemoryReservation → invalid (start numbers k) (size numbers k) ≡ true
+  refused-invalid e = go (invalid (start numbers k) (size numbers k)) (sym made-by ∙ e)
+    where
+      go : (b : Bool) → cond b InvalidMemoryReservation (Entry (entryAt numbers k)) ≡ InvalidMemoryReservation → b ≡ true
+      go true e = refl
+      go false e = cc
+
+  pub taken-valid : (f : FdtReserveEntry) → answer ≡ Entry f → invalid (start numbers k) (size numbers k) ≡ false
+  taken-valid f e = go (invalid (start numbers k) (size numbers k)) (sym made-by ∙ e)
+    where
+      go : (b : Bool) → cond b InvalidMemoryReservation (Entry (entryAt numbers k)) ≡ Entry f → b ≡ false
+      go true e = cc
+      go false e = refl

@@ -6,6 +6,7 @@ use mathlib.Core.List.{List}
 use Prim.Native.Nat.{ℕ, zero, suc, _+_, _-_, _*_, _/_, _≤_, _<_, max}
 use native.Mathlib.Nat.{not-suc-le-zero}
 use native.Mathlib.Decide.{decLt}
+use native.Mathlib.Numerals.{add-one}
 use native.Mathlib.Omega.{arith}
 use borrow.Author.Count.{below-more}
 use borrow.Author.Tests.{lt-ltb, le-ltb, ltb-true}
@@ -73,6 +74,11 @@ module _ (test : ℕ → Bool) where
       go : Dec (k < n) → (k < n → some n test ≡ true) → (test n || some n test) ≡ true
       go (yes l) f = or-right (test n) (some n test) (f l)
       go (no m) f = let q : k ≡ n = omega arith in simp (ap test (sym q) ∙ e)
+
+  -- one more test that fails
+  pub some-more : (n : ℕ) → some n test ≡ false → test n ≡ false → some (n + 1) test ≡ false
+  unfolding some
+  some-more n h e = rw (add-one n) (simp (e, h))
 
   pub where-some : (n : ℕ) → some n test ≡ true → (k : ℕ) × (k < n) × (test k ≡ true)
   unfolding some
@@ -165,3 +171,12 @@ module _ (numbers : List ℕ) where
           let w = ordered o in
           some-at (λ k. some k (λ j. meets j k)) (length numbers / 2) (w .1) (w .3)
           (some-at (λ j. meets j (w .1)) (w .1) (w .0) (w .2) (w .4))
+
+  -- an exact test of overlap is the computed one
+  pub overlap-told : (r : Bool) → (r ≡ true) ↔ Overlap numbers → r ≡ overlapping numbers
+  overlap-told r h = go r (overlapping numbers) refl refl
+    where
+      go : (a b : Bool) → r ≡ a → overlapping numbers ≡ b → r ≡ overlapping numbers
+      go true b p q = p ∙ sym (overlapping-exact .1 (h .0 p))
+      go false true p q = h .1 (overlapping-exact .0 q) ∙ sym q
+      go false false p q = p ∙ sym q

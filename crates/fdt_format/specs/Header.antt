@@ -1,0 +1,46 @@
+-- The header and the reservations (document 01, "The bytes"; Devicetree Specification v0.4, sections 5.2 and 5.3).
+use Prim.Native.Nat.{ℕ, _+_, _*_, _-_}
+use mathlib.Core.List.{List, [], _∷_, _++_}
+use lib.ListN.{length}
+use Rattle.fdt_bytes.specs.BigEndian.{cellBytes}
+use Rattle.fdt_bytes.specs.Padding.{zeros}
+
+abbrev pub magic : ℕ
+magic = 0xd00dfeed
+
+abbrev pub version : ℕ
+version = 17
+
+abbrev pub lastCompatible : ℕ
+lastCompatible = 16
+
+-- the header's size, where the reservations begin
+abbrev pub headerSize : ℕ
+headerSize = 40
+
+-- the structure begins after the header, n reservations and 16 zeros
+abbrev pub structureStart : ℕ → ℕ
+structureStart n = 56 + 16 * n
+
+-- address and size, 8 bytes each, in the caller's order, then 16 zero bytes
+unfoldable pub reservationBytes : List ℕ → List ℕ
+reservationBytes numbers = cellBytes 8 numbers ++ zeros 16
+
+-- the header's words, in order, of a blob with n reservations whose structure ends and whose strings begin at `strings`
+unfoldable pub headerWords : ℕ → ℕ → ℕ → ℕ → List ℕ
+headerWords n strings stringsSize boot =
+    magic
+    ∷ (strings + stringsSize)
+    ∷ structureStart n
+    ∷ strings
+    ∷ headerSize
+    ∷ version
+    ∷ lastCompatible
+    ∷ boot
+    ∷ stringsSize
+    ∷ (strings - structureStart n)
+    ∷ []
+
+-- the header's bytes
+unfoldable pub headerBytes : ℕ → ℕ → ℕ → ℕ → List ℕ
+headerBytes n strings stringsSize boot = cellBytes 4 (headerWords n strings stringsSize boot)

@@ -1,0 +1,4 @@
+pub mod Answers
+pub mod Fits
+pub mod Rows
+pub mod Tests

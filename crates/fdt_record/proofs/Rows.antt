@@ -1,0 +1,88 @@
+-- Laws of rows: the first row that holds answers, exactly; where none holds the call is accepted.
+use mathlib.Core.Path.{_≡_, refl, sym, ap, _∙_}
+use mathlib.Core.Bool.{Bool, true, false, true≢false}
+use mathlib.Core.List.{List, [], _∷_, _++_}
+use mathlib.Core.Logic.{_↔_}
+use Rattle.fdt_record.specs.declared.Answer.{Answer}
+use Rattle.fdt_record.specs.declared.Answer.the-variants.{Done}
+use Rattle.fdt_record.specs.Answers.{accepts, upon}
+use Rattle.fdt_record.specs.Rows.{Row, _⇒_, first}
+
+-- A test that fails is passed over, and one that holds answers.
+module _ (a : Answer) (rows : List Row) where
+  pub skip : {b : Bool} → b ≡ false → first ((b ⇒ a) ∷ rows) ≡ first rows
+  unfolding first
+  skip e = simp e
+
+  pub hit : {b : Bool} → b ≡ true → first ((b ⇒ a) ∷ rows) ≡ a
+  unfolding first
+  hit e = simp e
+
+-- no test is left
+pub done : first [] ≡ Done
+unfolding first
+done = refl
+
+-- every test fails
+unfoldable pub NoneHolds : List Row → Type 0
+NoneHolds [] = Unit {0}
+NoneHolds ((b ⇒ a) ∷ rows) = (b ≡ false) × NoneHolds rows
+
+-- every answer of the rows is a refusal
+unfoldable pub Refusals : List Row → Type 0
+Refusals [] = Unit {0}
+Refusals ((b ⇒ a) ∷ rows) = (accepts a ≡ false) × Refusals rows
+
+-- a refusal is given by a row that holds, after rows that do not
+pub record Given (rows : List Row) (a : Answer) : Type 0 where
+  pub before : List Row
+  pub behind : List Row
+  pub split : rows ≡ before ++ (true ⇒ a) ∷ behind
+  pub passed : NoneHolds before
+
+-- accepted exactly when every test fails
+pub accepted-exactly : (rows : List Row) → Refusals rows → (first rows ≡ Done) ↔ NoneHolds rows
+unfolding first NoneHolds Refusals accepts
+accepted-exactly [] r = (λ e. tt, λ n. refl)
+accepted-exactly ((true ⇒ a) ∷ rows) r =
+    (λ e. absurd (true≢false (ap accepts (sym e) ∙ r .0)), λ n. absurd (true≢false (n .0)))
+accepted-exactly ((false ⇒ a) ∷ rows) r =
+    let ih = accepted-exactly rows (r .1) in (λ e. (refl, ih .0 e), λ n. ih .1 (n .1))
+
+-- a refusal is the answer exactly when its row holds and no earlier one does
+pub refused-exactly : (rows : List Row) (a : Answer) → accepts a ≡ false → (first rows ≡ a) ↔ Given rows a
+unfolding first NoneHolds accepts
+refused-exactly rows a r = (told rows, λ g. ap first (g .split) ∙ holds (g .before) (g .behind) (g .passed))
+  where
+    holds : (before behind : List Row) → NoneHolds before → first (before ++ (true ⇒ a) ∷ behind) ≡ a
+    holds [] behind n = refl
+    holds ((true ⇒ b) ∷ before) behind n = absurd (true≢false (n .0))
+    holds ((false ⇒ b) ∷ before) behind n = holds before behind (n .1)
+
+    later : (b : Answer) (rows : List Row) → Given rows a → Given ((false ⇒ b) ∷ rows) a
+    later b rows g =
+        record { before = (false ⇒ b) ∷ g .before; behind = g .behind; split = ap (λ (l : List Row). (false ⇒ b) ∷ l) (g .split); passed = (refl, g .passed) }
+
+    told : (rows : List Row) → first rows ≡ a → Given rows a
+    told [] e = absurd (true≢false (ap accepts e ∙ r))
+    told ((true ⇒ b) ∷ rows) e =
+        record { before = []; behind = rows; split = ap (λ (c : Answer). (true ⇒ c) ∷ rows) e; passed = tt }
+    told ((false ⇒ b) ∷ rows) e = later b rows (told rows e)
+
+-- what holds of acceptance and of every answer of the rows holds of the answer
+unfoldable pub Every : (Answer → Type 0) → List Row → Type 0
+Every P [] = Unit {0}
+Every P ((b ⇒ a) ∷ rows) = P a × Every P rows
+
+pub first-every : (P : Answer → Type 0) (rows : List Row) → P Done → Every P rows → P (first rows)
+unfolding first Every
+first-every P [] d h = d
+first-every P ((true ⇒ a) ∷ rows) d h = h .0
+first-every P ((false ⇒ a) ∷ rows) d h = first-every P rows d (h .1)
+
+-- rows after rows: the later ones answer where none of the earlier holds
+pub first-append : (rows more : List Row) → Refusals rows → first (rows ++ more) ≡ upon (first rows) (first more) (first rows)
+unfolding first Refusals accepts
+first-append [] more r = refl
+first-append ((true ⇒ a) ∷ rows) more r = sym (simp (r .0))
+first-append ((false ⇒ a) ∷ rows) more r = first-append rows more (r .1)

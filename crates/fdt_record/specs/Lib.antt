@@ -1,0 +1,5 @@
+pub mod Answers
+pub mod Fields
+pub mod Limits
+pub mod Misfits
+pub mod Rows

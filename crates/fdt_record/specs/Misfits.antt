@@ -1,0 +1,37 @@
+-- Misfit 17 and room 14 (document 01, "When the desk says no"): a record's figures against what is lent.
+use Prim.Native.Nat.{ℕ, _+_, _-_, _%_}
+use mathlib.Core.Bool.{Bool, not, _&&_, _||_}
+use mathlib.Core.List.{List}
+use lib.Dec.{eqb, ltb}
+use lib.ListN.{length, getD}
+use Rattle.fdt_format.specs.Header.{structureStart}
+use Rattle.fdt_record.specs.declared.Record.{Record}
+use Rattle.fdt_record.specs.Limits.{blobCeiling, stringsCeiling, phandlesCeiling, mostReservations, mostDepth, usable}
+
+-- recorded depth above 64 or reservations above 64
+unfoldable pub misfitRecord : Record → Bool
+misfitRecord w = ltb mostDepth (w .«node_depth») || ltb mostReservations (w .reservations)
+
+-- usable length differs from that at opening; used blob is above usable, not a multiple of 4, or below 56 + 16 × reservations
+unfoldable pub misfitBlob : Record → ℕ → Bool
+misfitBlob w lent =
+    not (eqb (usable blobCeiling lent) (w .«blob_room»))
+    || (ltb (w .«blob_room») (w .«blob_used»)
+    || (not (eqb (w .«blob_used» % 4) 0)
+    || ltb (w .«blob_used») (structureStart (w .reservations))))
+
+-- usable length differs from that at opening; used strings above usable, or non-zero with a last used byte other than 0
+unfoldable pub misfitStrings : Record → List ℕ → Bool
+misfitStrings w strings =
+    not (eqb (usable stringsCeiling (length strings)) (w .«strings_room»))
+    || (ltb (w .«strings_room») (w .«strings_used»)
+    || (not (eqb (w .«strings_used») 0) && not (eqb (getD strings (w .«strings_used» - 1) 0) 0)))
+
+-- usable length differs from that at opening; phandle count above usable
+unfoldable pub misfitPhandles : Record → ℕ → Bool
+misfitPhandles w lent =
+    not (eqb (usable phandlesCeiling lent) (w .«phandles_room»)) || ltb (w .«phandles_room») (w .«phandles_used»)
+
+-- used + bytes of this call exceeds usable length
+unfoldable pub noRoom : Record → ℕ → Bool
+noRoom w bytes = ltb (w .«blob_room») (w .«blob_used» + bytes)

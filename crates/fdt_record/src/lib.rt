@@ -1,0 +1,176 @@
+// The writer's record, its answers, its limits, and the tests of a record against what is lent.
+ghost use mathlib.Core.Path.{_≡_};
+ghost use lib.ListN.{length};
+ghost use Rattle.fdt_record.specs.Answers.{numberOf, accepts};
+ghost use Rattle.fdt_record.specs.Limits.{usable};
+ghost use Rattle.fdt_record.specs.Misfits.{misfitRecord, misfitBlob, misfitStrings, misfitPhandles, noRoom};
+
+// The longest blob, in bytes.
+pub const BLOB_CEILING: usize = 65_536;
+
+// The most strings, in bytes.
+pub const STRINGS_CEILING: usize = 8_192;
+
+// The most phandles, in entries.
+pub const PHANDLES_CEILING: usize = 256;
+
+// The most reservations.
+pub const MAX_RESERVATIONS: usize = 64;
+
+// The same max depth as in the Linux kernel.
+pub const FDT_MAX_NODE_DEPTH: usize = 64;
+
+// What a writer knows of its buffers and of the calls so far.
+#[repr(C)]
+pub struct Record {
+    pub blob_room: usize,
+    pub blob_used: usize,
+    pub strings_room: usize,
+    pub strings_used: usize,
+    pub phandles_room: usize,
+    pub phandles_used: usize,
+    pub reservations: usize,
+    pub node_depth: usize,
+    pub boot_cpuid_phys: u32,
+    pub node_ended: bool,
+    pub finished: bool,
+}
+
+// What a call answers: acceptance, the crate's refusals, and those that are added.
+pub enum Answer {
+    Done,
+    PropertyBeforeBeginNode,
+    PropertyAfterEndNode,
+    PropertyValueTooLarge,
+    TotalSizeTooLarge,
+    InvalidString,
+    OutOfOrderEndNode,
+    UnclosedNode,
+    InvalidMemoryReservation,
+    OverlappingMemoryReservations,
+    InvalidNodeName,
+    InvalidPropertyName,
+    NodeDepthTooLarge,
+    DuplicatePhandle,
+    BlobRoom,
+    StringRoom,
+    PhandleRoom,
+    Misfit,
+    Finished,
+    TooManyReservations,
+}
+
+// An answer beside the new record.
+pub struct Outcome {
+    pub answer: Answer,
+    pub after: Record,
+}
+
+// Document 01's number of an answer.
+pub fn number(answer: Answer) -> u32
+    ensures { λ r. ⌜ r ≡ numberOf answer ⌝ }
+{
+    match answer {
+        Answer::Done => 0,
+        Answer::PropertyBeforeBeginNode => 1,
+        Answer::PropertyAfterEndNode => 2,
+        Answer::PropertyValueTooLarge => 3,
+        Answer::TotalSizeTooLarge => 4,
+        Answer::InvalidString => 5,
+        Answer::OutOfOrderEndNode => 6,
+        Answer::UnclosedNode => 7,
+        Answer::InvalidMemoryReservation => 8,
+        Answer::OverlappingMemoryReservations => 9,
+        Answer::InvalidNodeName => 10,
+        Answer::InvalidPropertyName => 11,
+        Answer::NodeDepthTooLarge => 12,
+        Answer::DuplicatePhandle => 13,
+        Answer::BlobRoom => 14,
+        Answer::StringRoom => 15,
+        Answer::PhandleRoom => 16,
+        Answer::Misfit => 17,
+        Answer::Finished => 18,
+        Answer::TooManyReservations => 19,
+    }
+}
+
+// Whether an answer is acceptance.
+pub fn accepted(answer: Answer) -> bool
+    ensures { λ r. ⌜ r ≡ accepts answer ⌝ }
+{
+    match answer {
+        Answer::Done => true,
+        _ => false,
+    }
+}
+
+// The lesser of a buffer's length and its ceiling.
+pub fn usable_length(ceiling: usize, length: usize) -> usize
+    ensures { λ r. ⌜ r ≡ usable ceiling length ⌝ }
+{
+    if length < ceiling { length } else { ceiling }
+}
+
+// Whether depth or reservations are out of their bounds.
+pub fn misfit_record(w: Record) -> bool
+    ensures { λ r. ⌜ r ≡ misfitRecord w ⌝ }
+{
+    FDT_MAX_NODE_DEPTH < w.node_depth || MAX_RESERVATIONS < w.reservations
+}
+
+// Whether the record does not fit a blob of so many bytes.
+pub fn misfit_blob(w: Record, lent: usize) -> bool
+    ensures { λ r. ⌜ r ≡ misfitBlob w lent ⌝ }
+{
+    if usable_length(BLOB_CEILING, lent) != w.blob_room {
+        return true;
+    }
+    if w.blob_room < w.blob_used {
+        return true;
+    }
+    if w.blob_used % 4 != 0 {
+        return true;
+    }
+    if w.blob_used < fdt_format::STRUCTURE_START {
+        return true;
+    }
+    (w.blob_used - fdt_format::STRUCTURE_START) / fdt_format::RESERVATION_SIZE < w.reservations
+}
+
+// Whether the record does not fit these strings.
+pub fn misfit_strings(w: Record, strings: &[u8]) -> bool
+    ensures { λ r. ⌜ r ≡ misfitStrings w (now (strings .entry)) ⌝ }
+{
+    let used = w.strings_used;
+    if usable_length(STRINGS_CEILING, strings.len()) != w.strings_room {
+        return true;
+    }
+    if w.strings_room < used {
+        return true;
+    }
+    if used == 0 {
+        return false;
+    }
+    let last = used - 1;
+    strings[last] != 0
+}
+
+// Whether the record does not fit a table of so many phandles.
+pub fn misfit_phandles(w: Record, lent: usize) -> bool
+    ensures { λ r. ⌜ r ≡ misfitPhandles w lent ⌝ }
+{
+    if usable_length(PHANDLES_CEILING, lent) != w.phandles_room {
+        return true;
+    }
+    w.phandles_room < w.phandles_used
+}
+
+// Whether so many bytes more have no room in the blob.
+pub fn no_room(w: Record, bytes: usize) -> bool
+    ensures { λ r. ⌜ r ≡ noRoom w bytes ⌝ }
+{
+    if w.blob_room < w.blob_used {
+        return true;
+    }
+    w.blob_room - w.blob_used < bytes
+}
