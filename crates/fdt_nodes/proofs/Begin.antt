@@ -1,0 +1,102 @@
+-- Laws of a begin: its size, its three writes as one, what an accepted one passed, and exactly when each answer is given.
+use mathlib.Core.Path.{_≡_, refl, sym, ap, _∙_}
+use mathlib.Core.List.{List, [], _∷_, _++_}
+use mathlib.Core.Logic.{_↔_}
+use mathlib.Core.Bool.{true, false}
+use Prim.Native.Nat.{ℕ, _+_, _≤_, _<_}
+use native.Mathlib.Omega.{arith}
+use borrow.Author.Tests.{leb-false}
+use lib.ListN.{length}
+use Rattle.fdt_bytes.specs.BigEndian.{bigEndian}
+use Rattle.fdt_bytes.specs.Padding.{padding, roundUp, zeros, padded}
+use Rattle.fdt_bytes.specs.Splice.{splice}
+use Rattle.fdt_bytes.proofs.BigEndian.{length-bigEndian}
+use Rattle.fdt_bytes.proofs.Splice.{splice-three}
+use Rattle.fdt_strings.specs.Entries.{entry}
+use Rattle.fdt_strings.proofs.Entries.{length-entry}
+use Rattle.fdt_format.specs.Tokens.{beginToken, beginBytes}
+use Rattle.fdt_format.proofs.Tokens.{length-begin}
+use Rattle.fdt_record.specs.declared.Answer.{Answer}
+use Rattle.fdt_record.specs.declared.Answer.the-variants.{Done}
+use Rattle.fdt_record.specs.declared.Record.{Record}
+use Rattle.fdt_record.specs.Answers.{accepts, upon}
+use Rattle.fdt_record.specs.Fields.{withUsedBlob, withDepth, withEnded}
+use Rattle.fdt_record.specs.Limits.{mostDepth, blobCeiling}
+use Rattle.fdt_record.specs.Misfits.{misfitRecord, misfitBlob}
+use Rattle.fdt_record.proofs.Fits.{neither, FitBlob, fit-blob, has-room}
+use Rattle.fdt_record.proofs.Rows.{NoneHolds, Refusals, Given, accepted-exactly, refused-exactly}
+use Rattle.fdt_nodes.specs.declared.Begun.{Begun}
+use Rattle.fdt_nodes.specs.Begin.{beginRows, beginAnswer, begunRecord, begin}
+
+-- the size of a begin, with its padding
+pub begin-parts : (name : List ℕ) → length (beginBytes name) ≡ 4 + (length name + 1 + padding 4 (length name + 1))
+unfolding roundUp
+begin-parts name = length-begin name
+
+-- word 1, the stored name and the padding, one after the other
+pub put-begin : (used k : ℕ) (name blob b₁ b₂ b₃ : List ℕ) → b₁ ≡ splice used (bigEndian 4 beginToken) blob → b₂ ≡ splice (used + 4) (entry name) b₁ → b₃ ≡ splice (used + 4 + (length name + 1)) (zeros k) b₂ → k ≡ padding 4 (length name + 1) → used + length (beginBytes name) ≤ length blob → b₃ ≡ splice used (beginBytes name) blob
+unfolding beginBytes padded
+put-begin used k name blob b₁ b₂ b₃ e₁ e₂ e₃ p room =
+    let word = bigEndian 4 beginToken in
+    let n : length word ≡ 4 = length-bigEndian 4 beginToken in
+    let m : length (entry name) ≡ length name + 1 = length-entry name in
+    let parts = begin-parts name in
+    e₃ ∙ ap (splice (used + 4 + (length name + 1)) (zeros k)) (e₂ ∙ ap (splice (used + 4) (entry name)) e₁)
+    ∙ splice-three used (used + 4) (used + 4 + (length name + 1)) word (entry name) (zeros k) blob (omega arith) (omega arith) (omega arith)
+    ∙ ap (λ (j : ℕ). splice used (word ++ (entry name ++ zeros j)) blob) (p ∙ ap (padding 4) (sym m))
+
+-- every answer of the rows is a refusal
+refusals : (w : Record) (lent : ℕ) (name : List ℕ) → Refusals (beginRows w lent name)
+unfolding beginRows Refusals accepts
+refusals w lent name = (refl, (refl, (refl, (refl, (refl, (refl, tt))))))
+
+module _ (w : Record) (lent : ℕ) (name : List ℕ) where
+  -- accepted exactly when no test holds
+  pub begin-accepted : (beginAnswer w lent name ≡ Done) ↔ NoneHolds (beginRows w lent name)
+  unfolding beginAnswer
+  begin-accepted = accepted-exactly (beginRows w lent name) (refusals w lent name)
+
+  -- refused exactly when its row holds and no earlier one does
+  pub begin-refused : (a : Answer) → accepts a ≡ false → (beginAnswer w lent name ≡ a) ↔ Given (beginRows w lent name) a
+  unfolding beginAnswer
+  begin-refused a r = refused-exactly (beginRows w lent name) a r
+
+  -- what an accepted begin passed
+  pub record BeginFits : Type 0 where
+    pub blob : FitBlob w lent
+    pub depth : w .«node_depth» < mostDepth
+    pub room : w .«blob_used» + length (beginBytes name) ≤ w .«blob_room»
+
+  pub begin-fits : beginAnswer w lent name ≡ Done → BeginFits
+  unfolding beginRows NoneHolds
+  begin-fits e =
+      let n = begin-accepted .0 e in
+      record {
+        blob = fit-blob w lent (neither (misfitRecord w) (misfitBlob w lent) (n .1 .0) .1);
+        depth = leb-false mostDepth (w .«node_depth») (n .1 .1 .0);
+        room = has-room w (length (beginBytes name)) (n .1 .1 .1 .1 .1 .0);
+      }
+
+-- What a begin gives, by its answer.
+module _ (w : Record) (blob name : List ℕ) (a : Answer) (told : a ≡ beginAnswer w (length blob) name) where
+  gives : Answer → Begun
+  gives b = record {
+    answer = b;
+    handle = record { 0 = upon b (w .«node_depth» + 1) 0 };
+    after = upon b (begunRecord w name) w;
+  }
+
+  abbrev begun : ℕ → Begun
+  begun n = record {
+    answer = a;
+    handle = record { 0 = w .«node_depth» + 1 };
+    after = withEnded false (withDepth (w .«node_depth» + 1) (withUsedBlob (w .«blob_used» + n) w));
+  }
+
+  pub begin-gives : accepts a ≡ true → (n : ℕ) → n ≡ length (beginBytes name) → begun n ≡ begin w blob name
+  unfolding begin begunRecord gives
+  begin-gives t n e = ap begun e ∙ sym (simp t) ∙ ap gives told
+
+  pub begin-nothing : accepts a ≡ false → record { answer = a; handle = record { 0 = 0 }; after = w } ≡ begin w blob name
+  unfolding begin gives
+  begin-nothing t = sym (simp t) ∙ ap gives told

@@ -1,0 +1,60 @@
+-- Laws of an end: what an accepted one passed, and exactly when each answer is given.
+use mathlib.Core.Path.{_≡_, refl, sym, ap}
+use mathlib.Core.Bool.{true, false, not}
+use mathlib.Core.List.{List, [], _∷_}
+use mathlib.Core.Logic.{_↔_}
+use Prim.Native.Nat.{ℕ, _+_, _-_, _≤_, _<_}
+use native.Mathlib.Omega.{arith}
+use borrow.Author.Tests.{eqb-false}
+use lib.Dec.{eqb}
+use lib.ListN.{length}
+use Rattle.fdt_format.specs.Tokens.{endBytes}
+use Rattle.fdt_format.proofs.Tokens.{length-end}
+use Rattle.fdt_record.specs.declared.Answer.{Answer}
+use Rattle.fdt_record.specs.declared.Answer.the-variants.{Done}
+use Rattle.fdt_record.specs.declared.Record.{Record}
+use Rattle.fdt_record.specs.Answers.{accepts}
+use Rattle.fdt_record.specs.Fields.{withUsedBlob, withDepth, withEnded}
+use Rattle.fdt_record.specs.Misfits.{misfitRecord, misfitBlob}
+use Rattle.fdt_record.proofs.Fits.{neither, FitBlob, fit-blob, has-room}
+use Rattle.fdt_record.proofs.Rows.{NoneHolds, Refusals, Given, accepted-exactly, refused-exactly}
+use Rattle.fdt_nodes.specs.End.{endRows, endAnswer, endedRecord}
+
+-- every answer of the rows is a refusal
+refusals : (w : Record) (lent handle : ℕ) → Refusals (endRows w lent handle)
+unfolding endRows Refusals accepts
+refusals w lent handle = (refl, (refl, (refl, (refl, tt))))
+
+module _ (w : Record) (lent handle : ℕ) where
+  -- accepted exactly when no test holds
+  pub end-accepted : (endAnswer w lent handle ≡ Done) ↔ NoneHolds (endRows w lent handle)
+  unfolding endAnswer
+  end-accepted = accepted-exactly (endRows w lent handle) (refusals w lent handle)
+
+  -- refused exactly when its row holds and no earlier one does
+  pub end-refused : (a : Answer) → accepts a ≡ false → (endAnswer w lent handle ≡ a) ↔ Given (endRows w lent handle) a
+  unfolding endAnswer
+  end-refused a r = refused-exactly (endRows w lent handle) a r
+
+  -- what an accepted end passed
+  pub record EndFits : Type 0 where
+    pub blob : FitBlob w lent
+    pub depth : 0 < w .«node_depth»
+    pub room : w .«blob_used» + 4 ≤ w .«blob_room»
+
+  pub end-fits : endAnswer w lent handle ≡ Done → EndFits
+  unfolding endRows NoneHolds
+  end-fits e =
+      let n = end-accepted .0 e in
+      let z = eqb-false (w .«node_depth») 0 (neither (not (eqb handle (w .«node_depth»))) (eqb (w .«node_depth») 0) (n .1 .1 .0) .1) in
+      record {
+        blob = fit-blob w lent (neither (misfitRecord w) (misfitBlob w lent) (n .1 .0) .1);
+        depth = omega arith;
+        room = omega (arith, has-room w (length endBytes) (n .1 .1 .1 .0), length-end);
+      }
+
+-- the record after an accepted end, with its 4 bytes used
+pub ended-record : (w : Record) → withEnded true (withDepth (w .«node_depth» - 1) (withUsedBlob (w .«blob_used» + 4) w)) ≡ endedRecord w
+unfolding endedRecord
+ended-record w =
+    ap (λ (n : ℕ). withEnded true (withDepth (w .«node_depth» - 1) (withUsedBlob (w .«blob_used» + n) w))) (sym length-end)

@@ -1,0 +1,52 @@
+-- `put_begin` meets its contract: three writes, each where the one before ended.
+use Prim.Native.Nat.{_+_}
+use lib.ListN.{length}
+use Rattle.fdt_strings.proofs.Entries.{length-entry}
+use Rattle.fdt_nodes.proofs.Begin.{begin-parts, put-begin}
+use borrow.Author.Needs.{needs}
+use native.Mathlib.Omega.{arith}
+use Rattle.fdt_nodes.proofs.put_begin.Statement.{statement}
+use Rattle.fdt_nodes.proofs.put_begin.Tie as tie
+
+update-u32-requires : tie.Need-update-u32-requires
+update-u32-requires c κs = omega (arith, begin-parts (c .before .before .before .args .name .now), c .before .before .before .pre)
+
+add-at : tie.Need-add-at
+add-at c = search needs
+
+store-string-requires : tie.Need-store-string-requires
+store-string-requires c κs = omega (arith, begin-parts (c .before .before .before .before .before .before .before .args .name .now), length-entry (c .before .before .before .before .before .before .before .args .name .now), c .before .before .before .before .before .before .before .pre)
+
+add-stored : tie.Need-add-stored
+add-stored c = search needs
+
+add-zeros-at : tie.Need-add-zeros-at
+add-zeros-at c = omega (arith, begin-parts (c .before .before .before .before .before .before .before .before .before .before .before .args .name .now), c .before .before .before .before .before .before .before .before .before .before .before .pre)
+
+padding-of-requires : tie.Need-padding-of-requires
+padding-of-requires c κs = search needs
+
+zeros-at-requires : tie.Need-zeros-at-requires
+zeros-at-requires c κs = omega (arith, begin-parts (c .before .before .before .before .before .before .before .before .before .before .before .before .args .name .now), c .padding-of .ensures, c .before .before .before .before .before .before .before .before .before .before .before .before .pre)
+
+same-length : tie.Need-same-length
+same-length c = search needs
+
+returns : tie.Need-returns
+returns c =
+    let a = c .before .before .before .before .before .before .before .before .before .before .before .before .before .before .before .args in
+    put-begin (a .used) _ (a .name .now) (a .blob .now) _ _ _ (c .before .before .before .before .before .before .before .before .before .before .before .update-u32 .ensures) (c .before .before .before .before .before .before .before .store-string .ensures) (c .before .before .zeros-at .ensures) (c .before .before .before .padding-of .ensures) (c .before .before .before .before .before .before .before .before .before .before .before .before .before .before .before .pre)
+
+pub put-begin-spec : {M : Type 1} → statement M
+put-begin-spec =
+    tie.close
+    (tie.spec
+    update-u32-requires
+    add-at
+    store-string-requires
+    add-stored
+    add-zeros-at
+    padding-of-requires
+    zeros-at-requires
+    same-length
+    returns)

@@ -1,0 +1,142 @@
+// Beginning and ending a node.
+ghost use mathlib.Core.Path.{_≡_};
+ghost use Prim.Native.Nat.{_+_, _≤_};
+ghost use lib.ListN.{length};
+ghost use Rattle.fdt_bytes.specs.Splice.{splice};
+ghost use Rattle.fdt_format.specs.Tokens.{beginBytes};
+ghost use Rattle.fdt_nodes.specs.Begin.{beginAnswer, BeginOutcome};
+ghost use Rattle.fdt_nodes.specs.End.{endAnswer, EndOutcome};
+use fdt_record::Answer;
+use fdt_record::Outcome;
+use fdt_record::Record;
+
+// The word that begins a node.
+pub const FDT_BEGIN_NODE: u32 = 1;
+
+// The word that ends a node.
+pub const FDT_END_NODE: u32 = 2;
+
+// A node that was begun: the depth just after it began; 0 is never valid.
+pub struct FdtWriterNode(pub usize);
+
+// What begin answers, with the node's handle and the new record.
+pub struct Begun {
+    pub answer: Answer,
+    pub handle: FdtWriterNode,
+    pub after: Record,
+}
+
+// How many bytes a node's beginning takes.
+fn begin_size(name: &[u8]) -> usize
+    ensures { λ r. ⌜ r ≡ length (beginBytes (now (name .entry))) ⌝ }
+{
+    let stored = name.len() + 1;
+    4 + (stored + fdt_bytes::padding_of(stored, 4))
+}
+
+// The tests of a begin, in their order.
+fn begin_tests(w: Record, lent: usize, name: &[u8]) -> Answer
+    ensures { λ r. ⌜ r ≡ beginAnswer w lent (now (name .entry)) ⌝ }
+{
+    if w.finished {
+        return Answer::Finished;
+    }
+    if fdt_record::misfit_record(w) {
+        return Answer::Misfit;
+    }
+    if fdt_record::misfit_blob(w, lent) {
+        return Answer::Misfit;
+    }
+    if fdt_record::FDT_MAX_NODE_DEPTH <= w.node_depth {
+        return Answer::NodeDepthTooLarge;
+    }
+    if fdt_names::has_zero(name) {
+        return Answer::InvalidString;
+    }
+    if !fdt_names::node_name_valid(name) {
+        return Answer::InvalidNodeName;
+    }
+    if fdt_record::no_room(w, begin_size(name)) {
+        return Answer::BlobRoom;
+    }
+    Answer::Done
+}
+
+// Writes a node's beginning into the rest of the blob, from the used length on.
+fn put_begin(blob: &mut [u8], used: usize, name: &[u8])
+    requires { ⌜ used + length (beginBytes (now name)) ≤ length (now blob) ⌝ }
+    ensures { λ _. ⌜ now (blob .exit) ≡ splice used (beginBytes (now (name .entry))) (now (blob .entry)) ⌝ }
+{
+    fdt_bytes::update_u32(blob, used, FDT_BEGIN_NODE);
+    let at = used + 4;
+    fdt_strings::store_string(blob, at, name);
+    let stored = name.len() + 1;
+    fdt_bytes::zeros_at(blob, at + stored, fdt_bytes::padding_of(stored, 4));
+}
+
+// Begins a node.
+pub fn begin_node(w: Record, blob: &mut [u8], name: &[u8]) -> Begun
+    ensures { λ r. ⌜ BeginOutcome w (now (blob .entry)) (now (name .entry)) r (now (blob .exit)) ⌝ }
+{
+    let answer = begin_tests(w, blob.len(), name);
+    if !fdt_record::accepted(answer) {
+        return Begun {
+            answer,
+            handle: FdtWriterNode(0),
+            after: w,
+        };
+    }
+    let used = w.blob_used;
+    put_begin(blob, used, name);
+    let mut after = w;
+    after.blob_used = used + begin_size(name);
+    after.node_depth = w.node_depth + 1;
+    after.node_ended = false;
+    Begun {
+        answer,
+        handle: FdtWriterNode(w.node_depth + 1),
+        after,
+    }
+}
+
+// The tests of an end, in their order.
+fn end_tests(w: Record, lent: usize, node: FdtWriterNode) -> Answer
+    ensures { λ r. ⌜ r ≡ endAnswer w lent (node .0) ⌝ }
+{
+    if w.finished {
+        return Answer::Finished;
+    }
+    if fdt_record::misfit_record(w) {
+        return Answer::Misfit;
+    }
+    if fdt_record::misfit_blob(w, lent) {
+        return Answer::Misfit;
+    }
+    if node.0 != w.node_depth {
+        return Answer::OutOfOrderEndNode;
+    }
+    if w.node_depth == 0 {
+        return Answer::OutOfOrderEndNode;
+    }
+    if fdt_record::no_room(w, 4) {
+        return Answer::BlobRoom;
+    }
+    Answer::Done
+}
+
+// Ends the node that was begun last.
+pub fn end_node(w: Record, blob: &mut [u8], node: FdtWriterNode) -> Outcome
+    ensures { λ r. ⌜ EndOutcome w (now (blob .entry)) (node .0) r (now (blob .exit)) ⌝ }
+{
+    let answer = end_tests(w, blob.len(), node);
+    if !fdt_record::accepted(answer) {
+        return Outcome { answer, after: w };
+    }
+    let used = w.blob_used;
+    fdt_bytes::update_u32(blob, used, FDT_END_NODE);
+    let mut after = w;
+    after.blob_used = used + 4;
+    after.node_depth = w.node_depth - 1;
+    after.node_ended = true;
+    Outcome { answer, after }
+}
