@@ -1,0 +1,4 @@
+pub mod Accepted
+pub mod Places
+pub mod Property
+pub mod Steps
