@@ -1,0 +1,110 @@
+-- Laws of a finish: the lengths of what it writes, exactly when it is accepted or refused, and what an accepted one may rely on.
+use mathlib.Core.Path.{_≡_, refl, ap, _∙_}
+use mathlib.Core.Bool.{Bool, true, false, _||_}
+use mathlib.Core.List.{List, [], _∷_}
+use mathlib.Core.Logic.{_↔_}
+use Prim.Native.Nat.{ℕ, _+_, _-_, _≤_}
+use native.Mathlib.Omega.{arith}
+use borrow.Author.Tests.{eqb-true, not-false}
+use lib.Dec.{eqb}
+use lib.ListN.{length, take, length-take}
+use Rattle.fdt_bytes.specs.BigEndian.{bigEndian, cellBytes}
+use Rattle.fdt_bytes.specs.Splice.{splice}
+use Rattle.fdt_bytes.proofs.BigEndian.{length-bigEndian}
+use Rattle.fdt_bytes.proofs.Splice.{length-splice, splice-splice}
+use Rattle.fdt_format.specs.Header.{structureStart, headerWords, headerBytes}
+use Rattle.fdt_format.specs.Tokens.{finalToken, finalBytes}
+use Rattle.fdt_format.proofs.HeaderBytes.{length-header}
+use Rattle.fdt_format.proofs.Tokens.{length-final}
+use Rattle.fdt_record.specs.declared.Answer.{Answer}
+use Rattle.fdt_record.specs.declared.Answer.the-variants.{Done}
+use Rattle.fdt_record.specs.declared.Record.{Record}
+use Rattle.fdt_record.specs.Answers.{accepts, upon}
+use Rattle.fdt_record.specs.Limits.{blobCeiling}
+use Rattle.fdt_record.specs.Misfits.{misfitRecord, misfitBlob, misfitStrings}
+use Rattle.fdt_record.proofs.Answers.{accepts-done, upon-done, upon-refused}
+use Rattle.fdt_record.proofs.Fits.{neither, fit-blob, fit-strings, has-room}
+use Rattle.fdt_record.proofs.Rows.{NoneHolds, Refusals, Given, accepted-exactly, refused-exactly}
+use Rattle.fdt_finish.specs.Finish.{usedStrings, finishRows, finishAnswer, finishedBlob, finishBlob}
+
+-- word 9 and then the strings
+pub splice-final : (at : ℕ) (strings blob : List ℕ) → at + 4 ≤ length blob → splice (at + 4) strings (splice at (bigEndian 4 finalToken) blob) ≡ splice at (finalBytes strings) blob
+unfolding finalBytes
+splice-final at strings blob h =
+    splice-splice at (at + 4) (bigEndian 4 finalToken) strings blob (ap (λ (n : ℕ). at + n) (length-bigEndian 4 finalToken)) h
+
+module _ (w : Record) (lent : ℕ) (strings : List ℕ) where
+  pub finish-refusals : Refusals (finishRows w lent strings)
+  unfolding Refusals finishRows accepts
+  finish-refusals = (refl, (refl, (refl, (refl, tt))))
+
+  pub finish-accepted : (finishAnswer w lent strings ≡ Done) ↔ NoneHolds (finishRows w lent strings)
+  unfolding finishAnswer
+  finish-accepted = accepted-exactly (finishRows w lent strings) finish-refusals
+
+  pub finish-refused : (a : Answer) → accepts a ≡ false → (finishAnswer w lent strings ≡ a) ↔ Given (finishRows w lent strings) a
+  unfolding finishAnswer
+  finish-refused a = refused-exactly (finishRows w lent strings) a
+
+-- what the tests of an accepted finish tell
+pub record Finishable (w : Record) (lent : ℕ) (strings : List ℕ) : Type 0 where
+  pub unmarked : w .finished ≡ false
+  pub depth : w .«node_depth» ≡ 0
+  pub started : structureStart (w .reservations) ≤ w .«blob_used»
+  pub room : w .«blob_used» + (4 + w .«strings_used») ≤ w .«blob_room»
+  pub small : w .«blob_room» ≤ blobCeiling
+  pub within : w .«blob_room» ≤ lent
+  pub stored : w .«strings_used» ≤ length strings
+
+pub finish-fits : (w : Record) (lent : ℕ) (strings : List ℕ) → finishAnswer w lent strings ≡ Done → Finishable w lent strings
+unfolding finishRows NoneHolds
+finish-fits w lent strings e =
+    let n = finish-accepted w lent strings .0 e in
+    let m = neither (misfitRecord w) (misfitBlob w lent || misfitStrings w strings) (n .1 .0) in
+    let k = neither (misfitBlob w lent) (misfitStrings w strings) (m .1) in
+    let b = fit-blob w lent (k .0) in
+    let s = fit-strings w strings (k .1) in
+    record {
+      unmarked = n .0;
+      depth = eqb-true (w .«node_depth») 0 (not-false (eqb (w .«node_depth») 0) (n .1 .1 .0));
+      started = b .started;
+      room = has-room w (4 + w .«strings_used») (n .1 .1 .1 .0);
+      small = b .small;
+      within = b .within;
+      stored = omega (arith, s .used, s .within);
+    }
+
+module _ (w : Record) (blob strings : List ℕ) where
+  -- the three writes of a finish, one after the other
+  pub finished-by-parts : {words first second third : List ℕ} → w .«blob_used» + 4 ≤ length blob → first ≡ splice (w .«blob_used») (bigEndian 4 finalToken) blob → second ≡ splice (w .«blob_used» + 4) (take (w .«strings_used») strings) first → words ≡ headerWords (w .reservations) (w .«blob_used» + 4) (w .«strings_used») (w .«boot_cpuid_phys») → third ≡ splice 0 (cellBytes 4 words) second → third ≡ finishedBlob w blob strings
+  unfolding finishedBlob usedStrings headerBytes
+  finished-by-parts {words} {first} {second} {third} h p q e r =
+      let used = take (w .«strings_used») strings in
+      r
+      ∙ ap (λ (l : List ℕ). splice 0 (cellBytes 4 l) second) e
+      ∙ ap (splice 0 (headerBytes (w .reservations) (w .«blob_used» + 4) (w .«strings_used») (w .«boot_cpuid_phys»)))
+      (q ∙ ap (splice (w .«blob_used» + 4) used) p ∙ splice-final (w .«blob_used») used blob h)
+
+  -- an accepted finish keeps the blob's length
+  pub length-finished : finishAnswer w (length blob) strings ≡ Done → length (finishedBlob w blob strings) ≡ length blob
+  unfolding finishedBlob usedStrings
+  length-finished e =
+      let f = finish-fits w (length blob) strings e in
+      let used = take (w .«strings_used») strings in
+      let n : length (finalBytes used) ≤ 4 + w .«strings_used» = omega (arith, length-final used, length-take (w .«strings_used») strings) in
+      let header = headerBytes (w .reservations) (w .«blob_used» + 4) (w .«strings_used») (w .«boot_cpuid_phys») in
+      let l = length-splice (w .«blob_used») (finalBytes used) blob (omega (arith, n, f .room, f .within)) in
+      length-splice 0 header (splice (w .«blob_used») (finalBytes used) blob)
+      (omega (arith, l, f .started, f .room, f .within, length-header (w .reservations) (w .«blob_used» + 4) (w .«strings_used») (w .«boot_cpuid_phys»)))
+      ∙ l
+
+  -- whatever is answered, the blob keeps its length
+  pub length-finish : length (finishBlob w blob strings) ≡ length blob
+  unfolding finishBlob
+  length-finish = go (accepts (finishAnswer w (length blob) strings)) refl
+    where
+      go : (b : Bool) → accepts (finishAnswer w (length blob) strings) ≡ b → length (upon (finishAnswer w (length blob) strings) (finishedBlob w blob strings) blob) ≡ length blob
+      go true a =
+          let d = accepts-done (finishAnswer w (length blob) strings) a in
+          ap length (upon-done (finishAnswer w (length blob) strings) (finishedBlob w blob strings) blob d) ∙ length-finished d
+      go false a = ap length (upon-refused (finishAnswer w (length blob) strings) (finishedBlob w blob strings) blob a)

@@ -1,0 +1,3 @@
+pub mod Boot
+pub mod Finish
+pub mod Shown

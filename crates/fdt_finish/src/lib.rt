@@ -1,0 +1,117 @@
+// Setting the boot number, finishing a blob, and showing it.
+ghost use mathlib.Core.Path.{_≡_};
+ghost use Prim.Native.Nat.{_+_, _≤_, _<_, _^_};
+ghost use lib.ListN.{length};
+ghost use Rattle.fdt_format.specs.Header.{structureStart};
+ghost use Rattle.fdt_finish.specs.Boot.{boot};
+ghost use Rattle.fdt_finish.specs.Finish.{finishAnswer, finishedBlob, FinishOutcome};
+ghost use Rattle.fdt_finish.specs.Shown.{shown};
+use fdt_format::Header;
+use fdt_record::Answer;
+use fdt_record::Outcome;
+use fdt_record::Record;
+
+// The word after the last node.
+pub const FDT_END: u32 = 9;
+
+// Sets the boot number.
+pub fn set_boot_cpuid_phys(w: Record, boot_cpuid_phys: u32) -> Outcome
+    ensures { λ r. ⌜ r ≡ boot w «boot_cpuid_phys» ⌝ }
+{
+    if w.finished {
+        return Outcome {
+            answer: Answer::Finished,
+            after: w,
+        };
+    }
+    if fdt_record::misfit_record(w) {
+        return Outcome {
+            answer: Answer::Misfit,
+            after: w,
+        };
+    }
+    let mut after = w;
+    after.boot_cpuid_phys = boot_cpuid_phys;
+    Outcome {
+        answer: Answer::Done,
+        after,
+    }
+}
+
+// The tests of a finish, in their order.
+fn finish_tests(w: Record, lent: usize, strings: &[u8]) -> Answer
+    ensures { λ r. ⌜ r ≡ finishAnswer w lent (now (strings .entry)) ⌝ }
+{
+    if w.finished {
+        return Answer::Finished;
+    }
+    if fdt_record::misfit_record(w) {
+        return Answer::Misfit;
+    }
+    if fdt_record::misfit_blob(w, lent) {
+        return Answer::Misfit;
+    }
+    if fdt_record::misfit_strings(w, strings) {
+        return Answer::Misfit;
+    }
+    if w.node_depth != 0 {
+        return Answer::UnclosedNode;
+    }
+    if fdt_record::no_room(w, 4 + w.strings_used) {
+        return Answer::BlobRoom;
+    }
+    Answer::Done
+}
+
+// Writes word 9 and the used strings at the used length, and the header in front.
+fn put_finish(w: Record, blob: &mut [u8], strings: &[u8])
+    requires { ⌜ structureStart (w .reservations) ≤ w .«blob_used» ⌝ }
+    requires { ⌜ w .«blob_used» + (4 + w .«strings_used») < 2 ^ 32 ⌝ }
+    requires { ⌜ w .«blob_used» + (4 + w .«strings_used») ≤ length (now blob) ⌝ }
+    requires { ⌜ w .«strings_used» ≤ length (now strings) ⌝ }
+    ensures { λ _. ⌜ now (blob .exit) ≡ finishedBlob w (now (blob .entry)) (now (strings .entry)) ⌝ }
+{
+    let end = w.blob_used;
+    let at = end + 4;
+    let size = w.strings_used;
+    fdt_bytes::update_u32(blob, end, FDT_END);
+    fdt_bytes::bytes_at(blob, at, &strings[..size]);
+    let header = Header {
+        off_dt_struct: fdt_format::structure_start(w.reservations) as u32,
+        off_dt_strings: at as u32,
+        size_dt_strings: size as u32,
+        boot_cpuid_phys: w.boot_cpuid_phys,
+    };
+    let words = header.words();
+    fdt_bytes::cells_at(blob, 0, &words);
+}
+
+// Finishes a blob.
+pub fn finish(w: Record, blob: &mut [u8], strings: &[u8]) -> Outcome
+    ensures { λ r. ⌜ FinishOutcome w (now (blob .entry)) (now (strings .entry)) r (now (blob .exit)) ⌝ }
+{
+    let answer = finish_tests(w, blob.len(), strings);
+    if !fdt_record::accepted(answer) {
+        return Outcome { answer, after: w };
+    }
+    put_finish(w, blob, strings);
+    let mut after = w;
+    after.blob_used = w.blob_used + (4 + w.strings_used);
+    after.finished = true;
+    Outcome { answer, after }
+}
+
+// The finished blob: the front of what is lent, or an empty part.
+pub fn show(w: Record, blob: &[u8]) -> &[u8]
+    ensures { λ r. ⌜ now r ≡ shown w (now (blob .entry)) ⌝ }
+{
+    let used = w.blob_used;
+    if w.finished {
+        if fdt_record::usable_length(fdt_record::BLOB_CEILING, blob.len()) == w.blob_room {
+            if used <= w.blob_room {
+                return &blob[..used];
+            }
+        }
+    }
+    &blob[..0]
+}

@@ -1,0 +1,80 @@
+-- `some_invalid` meets its contract: no reservation that was passed is refused, and one that is ends the search.
+use mathlib.Core.Path.{_≡_, refl, sym}
+use mathlib.Core.Bool.{false}
+use Prim.Native.Nat.{_-_, _/_, _≤_}
+use lib.ListN.{length}
+use Rattle.fdt_reserve.specs.Entry.{invalid}
+use Rattle.fdt_reserve.specs.Overlap.{start, size, some}
+use Rattle.fdt_reserve.proofs.Entry.{refused-invalid, taken-valid}
+use Rattle.fdt_reserve.proofs.Overlap.{some-at, some-more}
+use Rattle.fdt_opening.specs.Opening.{someInvalid}
+use borrow.Author.Needs.{needs}
+use native.Mathlib.Omega.{arith}
+use Rattle.fdt_opening.proofs.some_invalid.Statement.{statement}
+use Rattle.fdt_opening.proofs.some_invalid.Tie as tie
+
+abbrev Inv-loop : tie.InvT-loop
+Inv-loop mem-reservations n i₀ i = (i ≤ n) × (some i (λ k. invalid (start mem-reservations k) (size mem-reservations k)) ≡ false)
+
+abbrev μ-loop : tie.MeasureT-loop
+μ-loop mem-reservations n i₀ i = n - i
+
+loop-holds : tie.Need-loop-holds Inv-loop μ-loop
+unfolding some
+loop-holds c = (search needs, refl)
+
+entry-at-requires : tie.Need-entry-at-requires Inv-loop μ-loop
+entry-at-requires c κs = search needs
+
+new-requires : tie.Need-new-requires Inv-loop μ-loop
+new-requires c κs = search needs
+
+enum-told : tie.Need-enum-told Inv-loop μ-loop
+enum-told c = search needs
+
+returns : tie.Need-returns Inv-loop μ-loop
+unfolding someInvalid
+returns c =
+    let l = c .before .before .before .before .before .loop in
+    sym
+    (some-at _ _ (l .i) (c .before .before .before .before .loop-test .taken)
+    (refused-invalid _ _ _ _ (c .before .before .before .entry-at .ensures) (c .before .before .new .ensures) (c .enum-told .given .1)))
+
+enum-told-2 : tie.Need-enum-told-2 Inv-loop μ-loop
+enum-told-2 c = search needs
+
+add-i : tie.Need-add-i Inv-loop μ-loop
+add-i c = search needs
+
+loop-less : tie.Need-loop-less Inv-loop μ-loop
+loop-less c = search needs
+
+loop-again : tie.Need-loop-again Inv-loop μ-loop
+loop-again c =
+    let l = c .before .before .before .before .before .loop in (
+      search needs,
+      some-more _ (l .i) (l .inv .1) (taken-valid _ _ _ _ (c .before .before .before .entry-at .ensures) (c .before .before .new .ensures) _ (c .enum-told2 .given .1)),
+    )
+
+returns-2 : tie.Need-returns-2 Inv-loop μ-loop
+unfolding someInvalid
+returns-2 c =
+    let e : c .before .loop .i ≡ length (c .before .before .before .args .mem-reservations .now) / 2 = omega arith in
+    sym (rw e at (c .before .loop .inv .1))
+
+pub some-invalid-spec : {M : Type 1} → statement M
+some-invalid-spec =
+    tie.close
+    (tie.spec
+    Inv-loop
+    μ-loop
+    loop-holds
+    entry-at-requires
+    new-requires
+    enum-told
+    returns
+    enum-told-2
+    add-i
+    loop-less
+    loop-again
+    returns-2)

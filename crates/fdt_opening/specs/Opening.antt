@@ -1,0 +1,93 @@
+-- What opening answers and leaves (document 01: opening tests 17, 19, 8 (any pair), 9, 14).
+use mathlib.Core.Path.{_≡_}
+use mathlib.Core.Bool.{Bool, true, false, not}
+use mathlib.Core.List.{List, [], _∷_, _++_}
+use Prim.Native.Nat.{ℕ, _/_, _%_}
+use lib.Dec.{eqb, ltb}
+use lib.ListN.{length}
+use Rattle.fdt_bytes.specs.Padding.{zeros}
+use Rattle.fdt_bytes.specs.Splice.{splice}
+use Rattle.fdt_reserve.specs.Entry.{invalid}
+use Rattle.fdt_reserve.specs.Overlap.{start, size, some, overlapping}
+use Rattle.fdt_format.specs.Header.{headerSize, structureStart, reservationBytes}
+use Rattle.fdt_record.specs.declared.Answer.{Answer}
+use Rattle.fdt_record.specs.declared.Answer.the-variants.{Misfit, TooManyReservations, InvalidMemoryReservation, OverlappingMemoryReservations, BlobRoom}
+use Rattle.fdt_record.specs.declared.Outcome.{Outcome}
+use Rattle.fdt_record.specs.declared.Record.{Record}
+use Rattle.fdt_record.specs.Answers.{upon}
+use Rattle.fdt_record.specs.Limits.{blobCeiling, stringsCeiling, phandlesCeiling, mostReservations, usable}
+use Rattle.fdt_record.specs.Rows.{Row, _⇒_, first}
+
+-- how many reservations the numbers are, address and size in turn
+abbrev pub count : List ℕ → ℕ
+count numbers = length numbers / 2
+
+-- some reservation is refused 8
+unfoldable pub someInvalid : List ℕ → Bool
+someInvalid numbers = some (count numbers) (λ k. invalid (start numbers k) (size numbers k))
+
+-- the tests, in their order, of a call that is lent so many bytes
+unfoldable pub openingRows : ℕ → List ℕ → List Row
+openingRows lent numbers =
+    (not (eqb (length numbers % 2) 0) ⇒ Misfit)
+    ∷ (ltb mostReservations (count numbers) ⇒ TooManyReservations)
+    ∷ (someInvalid numbers ⇒ InvalidMemoryReservation)
+    ∷ (overlapping numbers ⇒ OverlappingMemoryReservations)
+    ∷ (ltb (usable blobCeiling lent) (structureStart (count numbers)) ⇒ BlobRoom)
+    ∷ []
+
+-- the answer
+unfoldable pub openingAnswer : ℕ → List ℕ → Answer
+openingAnswer lent numbers = first (openingRows lent numbers)
+
+-- an accepted opening's record: n, the usable lengths and the used blob length 56 + 16n; all else 0, no node ended, not finished
+unfoldable pub openedRecord : ℕ → ℕ → ℕ → List ℕ → Record
+openedRecord blob strings phandles numbers = record {
+  «blob_room» = usable blobCeiling blob;
+  «blob_used» = structureStart (count numbers);
+  «strings_room» = usable stringsCeiling strings;
+  «strings_used» = 0;
+  «phandles_room» = usable phandlesCeiling phandles;
+  «phandles_used» = 0;
+  reservations = count numbers;
+  «node_depth» = 0;
+  «boot_cpuid_phys» = 0;
+  «node_ended» = false;
+  finished = false;
+}
+
+-- a refused opening's record: all numbers 0 and marked finished
+unfoldable pub closedRecord : Record
+closedRecord = record {
+  «blob_room» = 0;
+  «blob_used» = 0;
+  «strings_room» = 0;
+  «strings_used» = 0;
+  «phandles_room» = 0;
+  «phandles_used» = 0;
+  reservations = 0;
+  «node_depth» = 0;
+  «boot_cpuid_phys» = 0;
+  «node_ended» = false;
+  finished = true;
+}
+
+-- what an accepted opening writes: a header of zeros, and the reservations
+unfoldable pub openingBytes : List ℕ → List ℕ
+openingBytes numbers = zeros headerSize ++ reservationBytes numbers
+
+-- the answer and the record, for the lengths of the three buffers
+unfoldable pub opening : ℕ → ℕ → ℕ → List ℕ → Outcome
+opening blob strings phandles numbers = record {
+  answer = openingAnswer blob numbers;
+  after = upon (openingAnswer blob numbers) (openedRecord blob strings phandles numbers) closedRecord;
+}
+
+-- the blob afterwards: an accepted opening's bytes in front, and nothing else changed
+unfoldable pub openingBlob : List ℕ → List ℕ → List ℕ
+openingBlob blob numbers = upon (openingAnswer (length blob) numbers) (splice 0 (openingBytes numbers) blob) blob
+
+-- the outcome of a call
+pub record OpeningOutcome (blob : List ℕ) (strings phandles : ℕ) (numbers : List ℕ) (r : Outcome) (after : List ℕ) : Type 0 where
+  pub result : r ≡ opening (length blob) strings phandles numbers
+  pub bytes : after ≡ openingBlob blob numbers
