@@ -1,0 +1,13 @@
+-- What a call of the writer tells, as the outcomes of the layers below have it.
+use Rattle.fdt_record.specs.declared.Outcome.{Outcome}
+use Rattle.fdt_nodes.specs.declared.Begun.{Begun}
+use Rattle.fdt_writer.specs.declared.Answered.{Answered}
+use Rattle.fdt_writer.specs.declared.NodeAnswered.{NodeAnswered}
+
+-- the answer and the record
+abbrev pub told : Answered → Outcome
+told r = record { answer = r .answer; after = r .writer .0 }
+
+-- the answer, the handle and the record
+abbrev pub begun : NodeAnswered → Begun
+begun r = record { answer = r .answer; handle = r .handle; after = r .writer .0 }

@@ -1,0 +1,369 @@
+// The devicetree writer: a record by value, with methods that hand it back beside their answer.
+ghost use mathlib.Core.Path.{_≡_};
+ghost use mathlib.Core.List.{[], _∷_};
+ghost use lib.ListN.{length};
+ghost use Rattle.fdt_values.specs.Value.{raw, cells, texts};
+ghost use Rattle.fdt_nodes.specs.Begin.{BeginOutcome};
+ghost use Rattle.fdt_nodes.specs.End.{EndOutcome};
+ghost use Rattle.fdt_properties.specs.Property.{PropertyOutcome};
+ghost use Rattle.fdt_phandles.specs.Phandle.{PhandleOutcome};
+ghost use Rattle.fdt_opening.specs.Opening.{OpeningOutcome};
+ghost use Rattle.fdt_finish.specs.Boot.{boot};
+ghost use Rattle.fdt_finish.specs.Finish.{FinishOutcome};
+ghost use Rattle.fdt_finish.specs.Shown.{shown};
+ghost use Rattle.fdt_writer.specs.Told.{told, begun};
+use fdt_nodes::FdtWriterNode;
+use fdt_record::Answer;
+use fdt_record::Record;
+use fdt_values::Kind;
+
+// A writer: what it knows of its buffers and of the calls so far.
+#[repr(C)]
+pub struct FdtWriter(pub Record);
+
+// What a call answers, beside the new writer.
+pub struct Answered {
+    pub answer: Answer,
+    pub writer: FdtWriter,
+}
+
+// What beginning a node answers, with the node's handle, beside the new writer.
+pub struct NodeAnswered {
+    pub answer: Answer,
+    pub handle: FdtWriterNode,
+    pub writer: FdtWriter,
+}
+
+impl FdtWriter {
+    // Opens a writer over a blob, a string buffer and a table of phandles.
+    pub fn new(blob: &mut [u8], strings: &[u8], phandles: &[u32]) -> Answered
+        ensures { λ r. ⌜ OpeningOutcome (now (blob .entry)) (length (now (strings .entry))) (length (now (phandles .entry))) [] (told r) (now (blob .exit)) ⌝ }
+    {
+        let o = fdt_opening::open(blob, strings, phandles, &[]);
+        let answer = o.answer;
+        let after = o.after;
+        Answered {
+            answer,
+            writer: FdtWriter(after),
+        }
+    }
+
+    // Opens a writer with reservations, given as address and size in turn.
+    pub fn new_with_mem_reserv(
+        blob: &mut [u8],
+        strings: &[u8],
+        phandles: &[u32],
+        mem_reservations: &[u64],
+    ) -> Answered
+        ensures { λ r. ⌜ OpeningOutcome (now (blob .entry)) (length (now (strings .entry))) (length (now (phandles .entry))) (now («mem_reservations» .entry)) (told r) (now (blob .exit)) ⌝ }
+    {
+        let o = fdt_opening::open(blob, strings, phandles, mem_reservations);
+        let answer = o.answer;
+        let after = o.after;
+        Answered {
+            answer,
+            writer: FdtWriter(after),
+        }
+    }
+
+    // Sets the boot processor's number.
+    pub fn set_boot_cpuid_phys(self, boot_cpuid_phys: u32) -> Answered
+        ensures { λ r. ⌜ told r ≡ boot (self .0) «boot_cpuid_phys» ⌝ }
+    {
+        let o = fdt_finish::set_boot_cpuid_phys(self.0, boot_cpuid_phys);
+        let answer = o.answer;
+        let after = o.after;
+        Answered {
+            answer,
+            writer: FdtWriter(after),
+        }
+    }
+
+    // Begins a node.
+    pub fn begin_node(self, blob: &mut [u8], name: &[u8]) -> NodeAnswered
+        ensures { λ r. ⌜ BeginOutcome (self .0) (now (blob .entry)) (now (name .entry)) (begun r) (now (blob .exit)) ⌝ }
+    {
+        let o = fdt_nodes::begin_node(self.0, blob, name);
+        let answer = o.answer;
+        let handle = o.handle;
+        let after = o.after;
+        NodeAnswered {
+            answer,
+            handle,
+            writer: FdtWriter(after),
+        }
+    }
+
+    // Ends the node that was begun last.
+    pub fn end_node(self, blob: &mut [u8], node: FdtWriterNode) -> Answered
+        ensures { λ r. ⌜ EndOutcome (self .0) (now (blob .entry)) (node .0) (told r) (now (blob .exit)) ⌝ }
+    {
+        let o = fdt_nodes::end_node(self.0, blob, node);
+        let answer = o.answer;
+        let after = o.after;
+        Answered {
+            answer,
+            writer: FdtWriter(after),
+        }
+    }
+
+    // Writes a property of bytes.
+    pub fn property(self, blob: &mut [u8], strings: &mut [u8], name: &[u8], val: &[u8]) -> Answered
+        ensures { λ r. ⌜ PropertyOutcome (self .0) (now (blob .entry)) (now (strings .entry)) (now (name .entry)) (raw (now (val .entry))) (told r) (now (blob .exit)) (now (strings .exit)) ⌝ }
+    {
+        let o = fdt_properties::write_property(
+            self.0,
+            blob,
+            strings,
+            name,
+            Kind::Bytes,
+            val,
+            &[],
+            &[],
+            &[],
+        );
+        let answer = o.answer;
+        let after = o.after;
+        Answered {
+            answer,
+            writer: FdtWriter(after),
+        }
+    }
+
+    // Writes an empty property.
+    pub fn property_null(self, blob: &mut [u8], strings: &mut [u8], name: &[u8]) -> Answered
+        ensures { λ r. ⌜ PropertyOutcome (self .0) (now (blob .entry)) (now (strings .entry)) (now (name .entry)) (raw []) (told r) (now (blob .exit)) (now (strings .exit)) ⌝ }
+    {
+        let o = fdt_properties::write_property(
+            self.0,
+            blob,
+            strings,
+            name,
+            Kind::Bytes,
+            &[],
+            &[],
+            &[],
+            &[],
+        );
+        let answer = o.answer;
+        let after = o.after;
+        Answered {
+            answer,
+            writer: FdtWriter(after),
+        }
+    }
+
+    // Writes a property of one string.
+    pub fn property_string(
+        self,
+        blob: &mut [u8],
+        strings: &mut [u8],
+        name: &[u8],
+        val: &[u8],
+    ) -> Answered
+        ensures { λ r. ⌜ PropertyOutcome (self .0) (now (blob .entry)) (now (strings .entry)) (now (name .entry)) (texts (now (val .entry)) (length (now (val .entry)) ∷ [])) (told r) (now (blob .exit)) (now (strings .exit)) ⌝ }
+    {
+        let o = fdt_properties::write_property(
+            self.0,
+            blob,
+            strings,
+            name,
+            Kind::Texts,
+            val,
+            &[],
+            &[],
+            &[val.len()],
+        );
+        let answer = o.answer;
+        let after = o.after;
+        Answered {
+            answer,
+            writer: FdtWriter(after),
+        }
+    }
+
+    // Writes a property of strings, given as their joined bytes and their lengths.
+    pub fn property_string_list(
+        self,
+        blob: &mut [u8],
+        strings: &mut [u8],
+        name: &[u8],
+        values: &[u8],
+        lengths: &[usize],
+    ) -> Answered
+        ensures { λ r. ⌜ PropertyOutcome (self .0) (now (blob .entry)) (now (strings .entry)) (now (name .entry)) (texts (now (values .entry)) (now (lengths .entry))) (told r) (now (blob .exit)) (now (strings .exit)) ⌝ }
+    {
+        let o = fdt_properties::write_property(
+            self.0,
+            blob,
+            strings,
+            name,
+            Kind::Texts,
+            values,
+            &[],
+            &[],
+            lengths,
+        );
+        let answer = o.answer;
+        let after = o.after;
+        Answered {
+            answer,
+            writer: FdtWriter(after),
+        }
+    }
+
+    // Writes a property of one number of 4 bytes.
+    pub fn property_u32(
+        self,
+        blob: &mut [u8],
+        strings: &mut [u8],
+        name: &[u8],
+        val: u32,
+    ) -> Answered
+        ensures { λ r. ⌜ PropertyOutcome (self .0) (now (blob .entry)) (now (strings .entry)) (now (name .entry)) (cells 4 (val ∷ [])) (told r) (now (blob .exit)) (now (strings .exit)) ⌝ }
+    {
+        let o = fdt_properties::write_property(
+            self.0,
+            blob,
+            strings,
+            name,
+            Kind::Cells,
+            &[],
+            &[val],
+            &[],
+            &[],
+        );
+        let answer = o.answer;
+        let after = o.after;
+        Answered {
+            answer,
+            writer: FdtWriter(after),
+        }
+    }
+
+    // Writes a property of one number of 8 bytes.
+    pub fn property_u64(
+        self,
+        blob: &mut [u8],
+        strings: &mut [u8],
+        name: &[u8],
+        val: u64,
+    ) -> Answered
+        ensures { λ r. ⌜ PropertyOutcome (self .0) (now (blob .entry)) (now (strings .entry)) (now (name .entry)) (cells 8 (val ∷ [])) (told r) (now (blob .exit)) (now (strings .exit)) ⌝ }
+    {
+        let o = fdt_properties::write_property(
+            self.0,
+            blob,
+            strings,
+            name,
+            Kind::WideCells,
+            &[],
+            &[],
+            &[val],
+            &[],
+        );
+        let answer = o.answer;
+        let after = o.after;
+        Answered {
+            answer,
+            writer: FdtWriter(after),
+        }
+    }
+
+    // Writes a property of numbers of 4 bytes.
+    pub fn property_array_u32(
+        self,
+        blob: &mut [u8],
+        strings: &mut [u8],
+        name: &[u8],
+        numbers: &[u32],
+    ) -> Answered
+        ensures { λ r. ⌜ PropertyOutcome (self .0) (now (blob .entry)) (now (strings .entry)) (now (name .entry)) (cells 4 (now (numbers .entry))) (told r) (now (blob .exit)) (now (strings .exit)) ⌝ }
+    {
+        let o = fdt_properties::write_property(
+            self.0,
+            blob,
+            strings,
+            name,
+            Kind::Cells,
+            &[],
+            numbers,
+            &[],
+            &[],
+        );
+        let answer = o.answer;
+        let after = o.after;
+        Answered {
+            answer,
+            writer: FdtWriter(after),
+        }
+    }
+
+    // Writes a property of numbers of 8 bytes.
+    pub fn property_array_u64(
+        self,
+        blob: &mut [u8],
+        strings: &mut [u8],
+        name: &[u8],
+        numbers: &[u64],
+    ) -> Answered
+        ensures { λ r. ⌜ PropertyOutcome (self .0) (now (blob .entry)) (now (strings .entry)) (now (name .entry)) (cells 8 (now (numbers .entry))) (told r) (now (blob .exit)) (now (strings .exit)) ⌝ }
+    {
+        let o = fdt_properties::write_property(
+            self.0,
+            blob,
+            strings,
+            name,
+            Kind::WideCells,
+            &[],
+            &[],
+            numbers,
+            &[],
+        );
+        let answer = o.answer;
+        let after = o.after;
+        Answered {
+            answer,
+            writer: FdtWriter(after),
+        }
+    }
+
+    // Records a phandle and writes its property; the value is recorded even if the property is then refused.
+    pub fn property_phandle(
+        self,
+        blob: &mut [u8],
+        strings: &mut [u8],
+        phandles: &mut [u32],
+        val: u32,
+    ) -> Answered
+        ensures { λ r. ⌜ PhandleOutcome (self .0) (now (blob .entry)) (now (strings .entry)) (now (phandles .entry)) val (told r) (now (blob .exit)) (now (strings .exit)) (now (phandles .exit)) ⌝ }
+    {
+        let o = fdt_phandles::property_phandle(self.0, blob, strings, phandles, val);
+        let answer = o.answer;
+        let after = o.after;
+        Answered {
+            answer,
+            writer: FdtWriter(after),
+        }
+    }
+
+    // Finishes the blob: the header, the last word and the strings.
+    pub fn finish(self, blob: &mut [u8], strings: &[u8]) -> Answered
+        ensures { λ r. ⌜ FinishOutcome (self .0) (now (blob .entry)) (now (strings .entry)) (told r) (now (blob .exit)) ⌝ }
+    {
+        let o = fdt_finish::finish(self.0, blob, strings);
+        let answer = o.answer;
+        let after = o.after;
+        Answered {
+            answer,
+            writer: FdtWriter(after),
+        }
+    }
+
+    // Shows the finished blob: the front of what is lent, or an empty part.
+    pub fn show(self, blob: &[u8]) -> &[u8]
+        ensures { λ r. ⌜ now r ≡ shown (self .0) (now (blob .entry)) ⌝ }
+    {
+        fdt_finish::show(self.0, blob)
+    }
+}
