@@ -1,0 +1,1 @@
+// Theorems over the calls of the writer. There is no code here.
