@@ -14,6 +14,7 @@ ghost use Rattle.fdt_finish.specs.Shown.{shown};
 ghost use Rattle.fdt_writer.specs.Told.{told, begun};
 use fdt_nodes::FdtWriterNode;
 use fdt_record::Answer;
+use fdt_record::Outcome;
 use fdt_record::Record;
 use fdt_values::Kind;
 
@@ -34,18 +35,24 @@ pub struct NodeAnswered {
     pub writer: FdtWriter,
 }
 
+// What a call on the record tells, with the record as a writer.
+fn wrapped(o: Outcome) -> Answered
+    ensures { λ r. ⌜ told r ≡ o ⌝ }
+{
+    let answer = o.answer;
+    let after = o.after;
+    Answered {
+        answer,
+        writer: FdtWriter(after),
+    }
+}
+
 impl FdtWriter {
     // Opens a writer over a blob, a string buffer and a table of phandles.
     pub fn new(blob: &mut [u8], strings: &[u8], phandles: &[u32]) -> Answered
         ensures { λ r. ⌜ OpeningOutcome (now (blob .entry)) (length (now (strings .entry))) (length (now (phandles .entry))) [] (told r) (now (blob .exit)) ⌝ }
     {
-        let o = fdt_opening::open(blob, strings, phandles, &[]);
-        let answer = o.answer;
-        let after = o.after;
-        Answered {
-            answer,
-            writer: FdtWriter(after),
-        }
+        FdtWriter::new_with_mem_reserv(blob, strings, phandles, &[])
     }
 
     // Opens a writer with reservations, given as address and size in turn.
@@ -57,26 +64,14 @@ impl FdtWriter {
     ) -> Answered
         ensures { λ r. ⌜ OpeningOutcome (now (blob .entry)) (length (now (strings .entry))) (length (now (phandles .entry))) (now («mem_reservations» .entry)) (told r) (now (blob .exit)) ⌝ }
     {
-        let o = fdt_opening::open(blob, strings, phandles, mem_reservations);
-        let answer = o.answer;
-        let after = o.after;
-        Answered {
-            answer,
-            writer: FdtWriter(after),
-        }
+        wrapped(fdt_opening::open(blob, strings, phandles, mem_reservations))
     }
 
     // Sets the boot processor's number.
     pub fn set_boot_cpuid_phys(self, boot_cpuid_phys: u32) -> Answered
         ensures { λ r. ⌜ told r ≡ boot (self .0) «boot_cpuid_phys» ⌝ }
     {
-        let o = fdt_finish::set_boot_cpuid_phys(self.0, boot_cpuid_phys);
-        let answer = o.answer;
-        let after = o.after;
-        Answered {
-            answer,
-            writer: FdtWriter(after),
-        }
+        wrapped(fdt_finish::set_boot_cpuid_phys(self.0, boot_cpuid_phys))
     }
 
     // Begins a node.
@@ -98,20 +93,14 @@ impl FdtWriter {
     pub fn end_node(self, blob: &mut [u8], node: FdtWriterNode) -> Answered
         ensures { λ r. ⌜ EndOutcome (self .0) (now (blob .entry)) (node .0) (told r) (now (blob .exit)) ⌝ }
     {
-        let o = fdt_nodes::end_node(self.0, blob, node);
-        let answer = o.answer;
-        let after = o.after;
-        Answered {
-            answer,
-            writer: FdtWriter(after),
-        }
+        wrapped(fdt_nodes::end_node(self.0, blob, node))
     }
 
     // Writes a property of bytes.
     pub fn property(self, blob: &mut [u8], strings: &mut [u8], name: &[u8], val: &[u8]) -> Answered
         ensures { λ r. ⌜ PropertyOutcome (self .0) (now (blob .entry)) (now (strings .entry)) (now (name .entry)) (raw (now (val .entry))) (told r) (now (blob .exit)) (now (strings .exit)) ⌝ }
     {
-        let o = fdt_properties::write_property(
+        wrapped(fdt_properties::write_property(
             self.0,
             blob,
             strings,
@@ -121,36 +110,14 @@ impl FdtWriter {
             &[],
             &[],
             &[],
-        );
-        let answer = o.answer;
-        let after = o.after;
-        Answered {
-            answer,
-            writer: FdtWriter(after),
-        }
+        ))
     }
 
     // Writes an empty property.
     pub fn property_null(self, blob: &mut [u8], strings: &mut [u8], name: &[u8]) -> Answered
         ensures { λ r. ⌜ PropertyOutcome (self .0) (now (blob .entry)) (now (strings .entry)) (now (name .entry)) (raw []) (told r) (now (blob .exit)) (now (strings .exit)) ⌝ }
     {
-        let o = fdt_properties::write_property(
-            self.0,
-            blob,
-            strings,
-            name,
-            Kind::Bytes,
-            &[],
-            &[],
-            &[],
-            &[],
-        );
-        let answer = o.answer;
-        let after = o.after;
-        Answered {
-            answer,
-            writer: FdtWriter(after),
-        }
+        self.property(blob, strings, name, &[])
     }
 
     // Writes a property of one string.
@@ -163,23 +130,7 @@ impl FdtWriter {
     ) -> Answered
         ensures { λ r. ⌜ PropertyOutcome (self .0) (now (blob .entry)) (now (strings .entry)) (now (name .entry)) (texts (now (val .entry)) (length (now (val .entry)) ∷ [])) (told r) (now (blob .exit)) (now (strings .exit)) ⌝ }
     {
-        let o = fdt_properties::write_property(
-            self.0,
-            blob,
-            strings,
-            name,
-            Kind::Texts,
-            val,
-            &[],
-            &[],
-            &[val.len()],
-        );
-        let answer = o.answer;
-        let after = o.after;
-        Answered {
-            answer,
-            writer: FdtWriter(after),
-        }
+        self.property_string_list(blob, strings, name, val, &[val.len()])
     }
 
     // Writes a property of strings, given as their joined bytes and their lengths.
@@ -193,7 +144,7 @@ impl FdtWriter {
     ) -> Answered
         ensures { λ r. ⌜ PropertyOutcome (self .0) (now (blob .entry)) (now (strings .entry)) (now (name .entry)) (texts (now (values .entry)) (now (lengths .entry))) (told r) (now (blob .exit)) (now (strings .exit)) ⌝ }
     {
-        let o = fdt_properties::write_property(
+        wrapped(fdt_properties::write_property(
             self.0,
             blob,
             strings,
@@ -203,13 +154,7 @@ impl FdtWriter {
             &[],
             &[],
             lengths,
-        );
-        let answer = o.answer;
-        let after = o.after;
-        Answered {
-            answer,
-            writer: FdtWriter(after),
-        }
+        ))
     }
 
     // Writes a property of one number of 4 bytes.
@@ -222,23 +167,7 @@ impl FdtWriter {
     ) -> Answered
         ensures { λ r. ⌜ PropertyOutcome (self .0) (now (blob .entry)) (now (strings .entry)) (now (name .entry)) (cells 4 (val ∷ [])) (told r) (now (blob .exit)) (now (strings .exit)) ⌝ }
     {
-        let o = fdt_properties::write_property(
-            self.0,
-            blob,
-            strings,
-            name,
-            Kind::Cells,
-            &[],
-            &[val],
-            &[],
-            &[],
-        );
-        let answer = o.answer;
-        let after = o.after;
-        Answered {
-            answer,
-            writer: FdtWriter(after),
-        }
+        self.property_array_u32(blob, strings, name, &[val])
     }
 
     // Writes a property of one number of 8 bytes.
@@ -251,23 +180,7 @@ impl FdtWriter {
     ) -> Answered
         ensures { λ r. ⌜ PropertyOutcome (self .0) (now (blob .entry)) (now (strings .entry)) (now (name .entry)) (cells 8 (val ∷ [])) (told r) (now (blob .exit)) (now (strings .exit)) ⌝ }
     {
-        let o = fdt_properties::write_property(
-            self.0,
-            blob,
-            strings,
-            name,
-            Kind::WideCells,
-            &[],
-            &[],
-            &[val],
-            &[],
-        );
-        let answer = o.answer;
-        let after = o.after;
-        Answered {
-            answer,
-            writer: FdtWriter(after),
-        }
+        self.property_array_u64(blob, strings, name, &[val])
     }
 
     // Writes a property of numbers of 4 bytes.
@@ -280,7 +193,7 @@ impl FdtWriter {
     ) -> Answered
         ensures { λ r. ⌜ PropertyOutcome (self .0) (now (blob .entry)) (now (strings .entry)) (now (name .entry)) (cells 4 (now (numbers .entry))) (told r) (now (blob .exit)) (now (strings .exit)) ⌝ }
     {
-        let o = fdt_properties::write_property(
+        wrapped(fdt_properties::write_property(
             self.0,
             blob,
             strings,
@@ -290,13 +203,7 @@ impl FdtWriter {
             numbers,
             &[],
             &[],
-        );
-        let answer = o.answer;
-        let after = o.after;
-        Answered {
-            answer,
-            writer: FdtWriter(after),
-        }
+        ))
     }
 
     // Writes a property of numbers of 8 bytes.
@@ -309,7 +216,7 @@ impl FdtWriter {
     ) -> Answered
         ensures { λ r. ⌜ PropertyOutcome (self .0) (now (blob .entry)) (now (strings .entry)) (now (name .entry)) (cells 8 (now (numbers .entry))) (told r) (now (blob .exit)) (now (strings .exit)) ⌝ }
     {
-        let o = fdt_properties::write_property(
+        wrapped(fdt_properties::write_property(
             self.0,
             blob,
             strings,
@@ -319,13 +226,7 @@ impl FdtWriter {
             &[],
             numbers,
             &[],
-        );
-        let answer = o.answer;
-        let after = o.after;
-        Answered {
-            answer,
-            writer: FdtWriter(after),
-        }
+        ))
     }
 
     // Records a phandle and writes its property; the value is recorded even if the property is then refused.
@@ -338,26 +239,14 @@ impl FdtWriter {
     ) -> Answered
         ensures { λ r. ⌜ PhandleOutcome (self .0) (now (blob .entry)) (now (strings .entry)) (now (phandles .entry)) val (told r) (now (blob .exit)) (now (strings .exit)) (now (phandles .exit)) ⌝ }
     {
-        let o = fdt_phandles::property_phandle(self.0, blob, strings, phandles, val);
-        let answer = o.answer;
-        let after = o.after;
-        Answered {
-            answer,
-            writer: FdtWriter(after),
-        }
+        wrapped(fdt_phandles::property_phandle(self.0, blob, strings, phandles, val))
     }
 
     // Finishes the blob: the header, the last word and the strings.
     pub fn finish(self, blob: &mut [u8], strings: &[u8]) -> Answered
         ensures { λ r. ⌜ FinishOutcome (self .0) (now (blob .entry)) (now (strings .entry)) (told r) (now (blob .exit)) ⌝ }
     {
-        let o = fdt_finish::finish(self.0, blob, strings);
-        let answer = o.answer;
-        let after = o.after;
-        Answered {
-            answer,
-            writer: FdtWriter(after),
-        }
+        wrapped(fdt_finish::finish(self.0, blob, strings))
     }
 
     // Shows the finished blob: the front of what is lent, or an empty part.

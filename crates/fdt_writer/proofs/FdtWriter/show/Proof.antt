@@ -1,0 +1,9 @@
+-- `show` meets its contract: the call on the record ensures it.
+use Rattle.fdt_writer.proofs.FdtWriter.show.Statement.{statement}
+use Rattle.fdt_writer.proofs.FdtWriter.show.Tie as tie
+
+returns : tie.Need-returns
+returns c = c .show .ensures
+
+pub show-spec : {M : Type 1} → statement M
+show-spec = tie.close (tie.spec (λ c κs. tt) returns)
