@@ -1,86 +1,24 @@
--- `cells_at` meets its contract: the first i numbers have been written, and the blob keeps its length.
-use mathlib.Core.Path.{_≡_, refl}
-use Prim.Native.Nat.{_+_, _≤_, _-_}
-use lib.ListN.{length, take}
-use Rattle.fdt_bytes.specs.BigEndian.{cellBytes}
-use Rattle.fdt_bytes.specs.Splice.{splice}
-use Rattle.fdt_bytes.proofs.Cells.{written-none, written-more, written-all, written-length}
-use borrow.Author.Needs.{needs}
+-- `cells_at` meets its contract: the first i numbers have been written.
+use Prim.Native.Nat.{_-_}
 use native.Mathlib.Omega.{arith}
+use borrow.Author.Needs.{needs}
+use lib.ListN.{length}
+use Rattle.fdt_bytes.proofs.Cells.{Written, written-none, written-more, written-all}
 use Rattle.fdt_bytes.proofs.cells_at.Statement.{statement}
 use Rattle.fdt_bytes.proofs.cells_at.Tie as tie
 
 abbrev Inv-loop : tie.InvT-loop
-Inv-loop blob₀ at cells i₀ blob i = (i ≤ length cells) × (length blob ≡ length blob₀) × (blob ≡ splice at (cellBytes 4 (take i cells)) blob₀)
+Inv-loop blob₀ at cells i₀ blob i = Written 4 at cells blob₀ blob i
 
 abbrev μ-loop : tie.MeasureT-loop
 μ-loop blob₀ at cells i₀ blob i = length cells - i
 
-loop-holds : tie.Need-loop-holds Inv-loop μ-loop
-loop-holds c =
-    let a = c .before .before .args in (omega arith, refl, written-none 4 (a .at) (a .cells .now) (a .blob .now) (c .before .before .pre))
-
-mul-to : tie.Need-mul-to Inv-loop μ-loop
-mul-to c = omega arith
-
-add-to : tie.Need-add-to Inv-loop μ-loop
-add-to c = omega arith
-
-sub-append-u32 : tie.Need-sub-append-u32 Inv-loop μ-loop
-sub-append-u32 c = omega arith
-
-part-append-u32-start : tie.Need-part-append-u32-start Inv-loop μ-loop
-part-append-u32-start c = omega arith
-
-part-append-u32-end : tie.Need-part-append-u32-end Inv-loop μ-loop
-part-append-u32-end c = omega arith
-
-mul-append-u32 : tie.Need-mul-append-u32 Inv-loop μ-loop
-mul-append-u32 c = omega arith
-
-shared-slice-read-append-u32 : tie.Need-shared-slice-read-append-u32 Inv-loop μ-loop
-shared-slice-read-append-u32 c = omega arith
-
-append-u32-requires : tie.Need-append-u32-requires Inv-loop μ-loop
-append-u32-requires c κs = search needs
-
-add-i : tie.Need-add-i Inv-loop μ-loop
-add-i c = omega arith
-
-loop-less : tie.Need-loop-less Inv-loop μ-loop
-loop-less c = omega arith
-
 loop-again : tie.Need-loop-again Inv-loop μ-loop
-loop-again c =
-    let a = c .before .before .before .before .before .before .before .before .before .args in
-    let l = c .before .before .before .before .before .before .loop in
-    let more = written-more 4 (a .at) (a .cells .now) (a .blob .now) (c .before .before .before .before .before .before .before .before .before .pre) (l .i) (l .blob) (c .before .before .append-u32 .last .0) (c .before .before .before .before .before .loop-test .taken) (l .inv .2) (c .before .before .append-u32 .ensures) in
-    (omega arith, written-length 4 (a .at) (a .cells .now) (a .blob .now) (c .before .before .before .before .before .before .before .before .before .pre) (l .i + 1) _ (omega arith) more, more)
-
-same-length : tie.Need-same-length Inv-loop μ-loop
-same-length c = c .before .loop .inv .1
-
-returns : tie.Need-returns Inv-loop μ-loop
-returns c =
-    let a = c .before .before .before .before .args in written-all 4 (a .at) (a .cells .now) (a .blob .now) (c .before .before .before .before .pre) (c .before .loop .i) (c .before .loop .blob) (c .loop-test .left) (c .before .loop .inv .2)
+loop-again c = written-more (c .before .before .before .before .before .before .before .before .before .pre) (c .before .before .before .before .before .before .loop .inv) (c .before .before .before .before .before .loop-test .taken) (c .before .before .append-u32 .ensures)
 
 pub cells-at-spec : {M : Type 1} → statement M
 cells-at-spec =
     tie.close
-    (tie.spec
-    Inv-loop
-    μ-loop
-    loop-holds
-    mul-to
-    add-to
-    sub-append-u32
-    part-append-u32-start
-    part-append-u32-end
-    mul-append-u32
-    shared-slice-read-append-u32
-    append-u32-requires
-    add-i
-    loop-less
-    loop-again
-    same-length
-    returns)
+    (tie.spec Inv-loop μ-loop (λ c. written-none) (λ c. omega arith) (λ c. omega arith) (λ c. omega arith) (λ c. omega arith)
+    (λ c. omega arith) (λ c. omega arith) (λ c. omega arith) (λ c κs. search needs) (λ c. omega arith) (λ c. omega arith) loop-again
+    (λ c. c .before .loop .inv .kept) (λ c. written-all (c .before .loop .inv) (c .loop-test .left)))
