@@ -5,53 +5,29 @@ use Rattle.fdt_values.proofs.Values.{fits-texts, room-value}
 use Rattle.fdt_values.proofs.value_at.Statement.{statement}
 use Rattle.fdt_values.proofs.value_at.Tie as tie
 
-enum-told : tie.Need-enum-told
-enum-told c = search needs
-
 bytes-at-requires : tie.Need-bytes-at-requires
 bytes-at-requires c κs = let p = c .before .before .before .before .before .before .before .before .pre in rw (c .before .enum-told .given .1) at (room-value _ _ _ (p .0) (p .1))
-
-enum-told-2 : tie.Need-enum-told-2
-enum-told-2 c = search needs
 
 cells-at-requires : tie.Need-cells-at-requires
 cells-at-requires c κs = let p = c .before .before .before .before .before .before .before .before .pre in rw (c .before .enum-told2 .given .1) at (room-value _ _ _ (p .0) (p .1))
 
-enum-told-3 : tie.Need-enum-told-3
-enum-told-3 c = search needs
-
 wide-cells-at-requires : tie.Need-wide-cells-at-requires
 wide-cells-at-requires c κs = let p = c .before .before .before .before .before .before .before .before .pre in rw (c .before .enum-told3 .given .1) at (room-value _ _ _ (p .0) (p .1))
 
-enum-told-4 : tie.Need-enum-told-4
-enum-told-4 c = search needs
-
 texts-at-requires : tie.Need-texts-at-requires
 texts-at-requires c κs = let p = c .before .before .before .before .before .before .before .before .pre in (fits-texts _ _ (rw (c .before .enum-told4 .given .1) at (p .0)), rw (c .before .enum-told4 .given .1) at (room-value _ _ _ (p .0) (p .1)))
-
-same-length : tie.Need-same-length
-same-length c = search needs
 
 returns : tie.Need-returns
 unfolding valueBytes
 returns c = rw (c .before .before .before .before .enum-told .given .1) (c .before .before .bytes-at .ensures)
 
-same-length-2 : tie.Need-same-length-2
-same-length-2 c = search needs
-
 returns-2 : tie.Need-returns-2
 unfolding valueBytes
 returns-2 c = rw (c .before .before .before .before .enum-told2 .given .1) (c .before .before .cells-at .ensures)
 
-same-length-3 : tie.Need-same-length-3
-same-length-3 c = search needs
-
 returns-3 : tie.Need-returns-3
 unfolding valueBytes
 returns-3 c = rw (c .before .before .before .before .enum-told3 .given .1) (c .before .before .wide-cells-at .ensures)
-
-same-length-4 : tie.Need-same-length-4
-same-length-4 c = search needs
 
 returns-4 : tie.Need-returns-4
 unfolding valueBytes
@@ -61,19 +37,7 @@ pub value-at-spec : {M : Type 1} → statement M
 value-at-spec =
     tie.close
     (tie.spec
-    enum-told
-    bytes-at-requires
-    enum-told-2
-    cells-at-requires
-    enum-told-3
-    wide-cells-at-requires
-    enum-told-4
-    texts-at-requires
-    same-length
-    returns
-    same-length-2
-    returns-2
-    same-length-3
-    returns-3
-    same-length-4
-    returns-4)
+    (λ c. search needs) bytes-at-requires (λ c. search needs) cells-at-requires
+    (λ c. search needs) wide-cells-at-requires (λ c. search needs) texts-at-requires
+    (λ c. search needs) returns (λ c. search needs) returns-2
+    (λ c. search needs) returns-3 (λ c. search needs) returns-4)

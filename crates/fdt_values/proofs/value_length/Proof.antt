@@ -6,27 +6,6 @@ use Rattle.fdt_values.proofs.Values.{length-value}
 use Rattle.fdt_values.proofs.value_length.Statement.{statement}
 use Rattle.fdt_values.proofs.value_length.Tie as tie
 
-enum-told : tie.Need-enum-told
-enum-told c = search needs
-
-enum-told-2 : tie.Need-enum-told-2
-enum-told-2 c = search needs
-
-mul-result : tie.Need-mul-result
-mul-result c = search needs
-
-enum-told-3 : tie.Need-enum-told-3
-enum-told-3 c = search needs
-
-mul-result-2 : tie.Need-mul-result-2
-mul-result-2 c = search needs
-
-enum-told-4 : tie.Need-enum-told-4
-enum-told-4 c = search needs
-
-add-result : tie.Need-add-result
-add-result c = search needs
-
 returns : tie.Need-returns
 returns c = rw (c .enum-told .given .1) (record { length-is = λ h. sym (length-value _ h); small = omega arith })
 
@@ -42,15 +21,5 @@ returns-4 c = rw (c .enum-told4 .given .1) (record { length-is = λ h. sym (leng
 pub value-length-spec : {M : Type 1} → statement M
 value-length-spec =
     tie.close
-    (tie.spec
-    enum-told
-    enum-told-2
-    mul-result
-    enum-told-3
-    mul-result-2
-    enum-told-4
-    add-result
-    returns
-    returns-2
-    returns-3
-    returns-4)
+    (tie.spec (λ c. search needs) (λ c. search needs) (λ c. search needs) (λ c. search needs) (λ c. search needs) (λ c. search needs) (λ c. search needs)
+    returns returns-2 returns-3 returns-4)

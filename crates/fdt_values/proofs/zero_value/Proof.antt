@@ -4,47 +4,10 @@ use Rattle.fdt_values.specs.Value.{zeroValue}
 use Rattle.fdt_values.proofs.zero_value.Statement.{statement}
 use Rattle.fdt_values.proofs.zero_value.Tie as tie
 
-enum-told : tie.Need-enum-told
-enum-told c = search needs
-
-enum-told-2 : tie.Need-enum-told-2
-enum-told-2 c = search needs
-
-enum-told-3 : tie.Need-enum-told-3
-enum-told-3 c = search needs
-
-enum-told-4 : tie.Need-enum-told-4
-enum-told-4 c = search needs
-
-has-zero-requires : tie.Need-has-zero-requires
-has-zero-requires c κs = search needs
-
-returns : tie.Need-returns
-unfolding zeroValue
-returns c = rw (c .enum-told .given .1)
-
-returns-2 : tie.Need-returns-2
-unfolding zeroValue
-returns-2 c = rw (c .enum-told2 .given .1)
-
-returns-3 : tie.Need-returns-3
-unfolding zeroValue
-returns-3 c = rw (c .enum-told3 .given .1)
-
-returns-4 : tie.Need-returns-4
-unfolding zeroValue
-returns-4 c = rw (c .before .enum-told4 .given .1) (c .has-zero .ensures)
-
 pub zero-value-spec : {M : Type 1} → statement M
+unfolding zeroValue
 zero-value-spec =
     tie.close
-    (tie.spec
-    enum-told
-    enum-told-2
-    enum-told-3
-    enum-told-4
-    has-zero-requires
-    returns
-    returns-2
-    returns-3
-    returns-4)
+    (tie.spec (λ c. search needs) (λ c. search needs) (λ c. search needs) (λ c. search needs) (λ c κs. tt)
+    (λ c. rw (c .enum-told .given .1)) (λ c. rw (c .enum-told2 .given .1)) (λ c. rw (c .enum-told3 .given .1))
+    (λ c. rw (c .before .enum-told4 .given .1) (c .has-zero .ensures)))
