@@ -1,6 +1,6 @@
 -- Laws of a finish: the lengths of what it writes, exactly when it is accepted or refused, and what an accepted one may rely on.
 use mathlib.Core.Path.{_≡_, refl, ap, _∙_}
-use mathlib.Core.Bool.{Bool, true, false, _||_}
+use mathlib.Core.Bool.{Bool, true, false}
 use mathlib.Core.List.{List, [], _∷_}
 use mathlib.Core.Logic.{_↔_}
 use Prim.Native.Nat.{ℕ, _+_, _-_, _≤_}
@@ -21,9 +21,9 @@ use Rattle.fdt_record.specs.declared.Answer.the-variants.{Done}
 use Rattle.fdt_record.specs.declared.Record.{Record}
 use Rattle.fdt_record.specs.Answers.{accepts, upon}
 use Rattle.fdt_record.specs.Limits.{blobCeiling}
-use Rattle.fdt_record.specs.Misfits.{misfitRecord, misfitBlob, misfitStrings}
+use Rattle.fdt_record.specs.Tests.{aloneRows, blobRows, stringsRows}
 use Rattle.fdt_record.proofs.Answers.{accepts-done, upon-done, upon-refused}
-use Rattle.fdt_record.proofs.Fits.{neither, fit-blob, fit-strings, has-room}
+use Rattle.fdt_record.proofs.Fits.{fit-blob, fit-strings, has-room}
 use Rattle.fdt_record.proofs.Rows.{NoneHolds, Refusals, Given, accepted-exactly, refused-exactly}
 use Rattle.fdt_finish.specs.Finish.{usedStrings, finishRows, finishAnswer, finishedBlob, finishBlob}
 
@@ -35,8 +35,8 @@ splice-final at strings blob h =
 
 module _ (w : Record) (lent : ℕ) (strings : List ℕ) where
   pub finish-refusals : Refusals (finishRows w lent strings)
-  unfolding Refusals finishRows accepts
-  finish-refusals = (refl, (refl, (refl, (refl, tt))))
+  unfolding Refusals finishRows stringsRows blobRows aloneRows accepts
+  finish-refusals = (refl, (refl, (refl, (refl, (refl, (refl, tt))))))
 
   pub finish-accepted : (finishAnswer w lent strings ≡ Done) ↔ NoneHolds (finishRows w lent strings)
   unfolding finishAnswer
@@ -57,18 +57,17 @@ pub record Finishable (w : Record) (lent : ℕ) (strings : List ℕ) : Type 0 wh
   pub stored : w .«strings_used» ≤ length strings
 
 pub finish-fits : (w : Record) (lent : ℕ) (strings : List ℕ) → finishAnswer w lent strings ≡ Done → Finishable w lent strings
-unfolding finishRows NoneHolds
+unfolding finishRows stringsRows blobRows aloneRows NoneHolds
 finish-fits w lent strings e =
     let n = finish-accepted w lent strings .0 e in
-    let m = neither (misfitRecord w) (misfitBlob w lent || misfitStrings w strings) (n .1 .0) in
-    let k = neither (misfitBlob w lent) (misfitStrings w strings) (m .1) in
-    let b = fit-blob w lent (k .0) in
-    let s = fit-strings w strings (k .1) in
+    let m = n .1 .1 in
+    let b = fit-blob w lent (m .0) in
+    let s = fit-strings w strings (m .1 .0) in
     record {
       unmarked = n .0;
-      depth = eqb-true (w .«node_depth») 0 (not-false (eqb (w .«node_depth») 0) (n .1 .1 .0));
+      depth = eqb-true (w .«node_depth») 0 (not-false (eqb (w .«node_depth») 0) (m .1 .1 .0));
       started = b .started;
-      room = has-room w (4 + w .«strings_used») (n .1 .1 .1 .0);
+      room = has-room w (4 + w .«strings_used») (m .1 .1 .1 .0);
       small = b .small;
       within = b .within;
       stored = omega (arith, s .used, s .within);

@@ -1,7 +1,7 @@
 -- What `finish` answers and leaves (document 01: finish tests 18, 17, 7, 14).
 use mathlib.Core.Path.{_≡_}
-use mathlib.Core.Bool.{true, not, _||_}
-use mathlib.Core.List.{List, [], _∷_}
+use mathlib.Core.Bool.{true, not}
+use mathlib.Core.List.{List, [], _∷_, _++_}
 use Prim.Native.Nat.{ℕ, _+_}
 use lib.Dec.{eqb}
 use lib.ListN.{length, take}
@@ -9,13 +9,14 @@ use Rattle.fdt_bytes.specs.Splice.{splice}
 use Rattle.fdt_format.specs.Header.{headerBytes}
 use Rattle.fdt_format.specs.Tokens.{finalBytes}
 use Rattle.fdt_record.specs.declared.Answer.{Answer}
-use Rattle.fdt_record.specs.declared.Answer.the-variants.{Finished, Misfit, UnclosedNode, BlobRoom}
+use Rattle.fdt_record.specs.declared.Answer.the-variants.{UnclosedNode, BlobRoom}
 use Rattle.fdt_record.specs.declared.Outcome.{Outcome}
 use Rattle.fdt_record.specs.declared.Record.{Record}
 use Rattle.fdt_record.specs.Answers.{upon}
 use Rattle.fdt_record.specs.Fields.{withUsedBlob, withFinished}
-use Rattle.fdt_record.specs.Misfits.{misfitRecord, misfitBlob, misfitStrings, noRoom}
+use Rattle.fdt_record.specs.Misfits.{noRoom}
 use Rattle.fdt_record.specs.Rows.{Row, _⇒_, first}
+use Rattle.fdt_record.specs.Tests.{stringsRows}
 
 -- the used strings
 unfoldable pub usedStrings : Record → List ℕ → List ℕ
@@ -24,9 +25,8 @@ usedStrings w strings = take (w .«strings_used») strings
 -- the tests, in their order, of a call that is lent so many bytes and these strings
 unfoldable pub finishRows : Record → ℕ → List ℕ → List Row
 finishRows w lent strings =
-    (w .finished ⇒ Finished)
-    ∷ ((misfitRecord w || (misfitBlob w lent || misfitStrings w strings)) ⇒ Misfit)
-    ∷ (not (eqb (w .«node_depth») 0) ⇒ UnclosedNode)
+    stringsRows w lent strings
+    ++ (not (eqb (w .«node_depth») 0) ⇒ UnclosedNode)
     ∷ (noRoom w (4 + w .«strings_used») ⇒ BlobRoom)
     ∷ []
 

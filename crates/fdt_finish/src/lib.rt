@@ -18,41 +18,22 @@ pub const FDT_END: u32 = 9;
 pub fn set_boot_cpuid_phys(w: Record, boot_cpuid_phys: u32) -> Outcome
     ensures { λ r. ⌜ r ≡ boot w «boot_cpuid_phys» ⌝ }
 {
-    if w.finished {
-        return Outcome {
-            answer: Answer::Finished,
-            after: w,
-        };
-    }
-    if fdt_record::misfit_record(w) {
-        return Outcome {
-            answer: Answer::Misfit,
-            after: w,
-        };
+    let answer = fdt_record::alone_tests(w);
+    if !fdt_record::accepted(answer) {
+        return Outcome { answer, after: w };
     }
     let mut after = w;
     after.boot_cpuid_phys = boot_cpuid_phys;
-    Outcome {
-        answer: Answer::Done,
-        after,
-    }
+    Outcome { answer, after }
 }
 
 // The tests of a finish, in their order.
 fn finish_tests(w: Record, lent: usize, strings: &[u8]) -> Answer
     ensures { λ r. ⌜ r ≡ finishAnswer w lent (now (strings .entry)) ⌝ }
 {
-    if w.finished {
-        return Answer::Finished;
-    }
-    if fdt_record::misfit_record(w) {
-        return Answer::Misfit;
-    }
-    if fdt_record::misfit_blob(w, lent) {
-        return Answer::Misfit;
-    }
-    if fdt_record::misfit_strings(w, strings) {
-        return Answer::Misfit;
+    let answer = fdt_record::strings_tests(w, lent, strings);
+    if !fdt_record::accepted(answer) {
+        return answer;
     }
     if w.node_depth != 0 {
         return Answer::UnclosedNode;

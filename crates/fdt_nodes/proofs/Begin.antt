@@ -22,8 +22,8 @@ use Rattle.fdt_record.specs.declared.Record.{Record}
 use Rattle.fdt_record.specs.Answers.{accepts, upon}
 use Rattle.fdt_record.specs.Fields.{withUsedBlob, withDepth, withEnded}
 use Rattle.fdt_record.specs.Limits.{mostDepth, blobCeiling}
-use Rattle.fdt_record.specs.Misfits.{misfitRecord, misfitBlob}
-use Rattle.fdt_record.proofs.Fits.{neither, FitBlob, fit-blob, has-room}
+use Rattle.fdt_record.specs.Tests.{aloneRows, blobRows}
+use Rattle.fdt_record.proofs.Fits.{FitBlob, fit-blob, has-room}
 use Rattle.fdt_record.proofs.Rows.{NoneHolds, Refusals, Given, accepted-exactly, refused-exactly}
 use Rattle.fdt_nodes.specs.declared.Begun.{Begun}
 use Rattle.fdt_nodes.specs.Begin.{beginRows, beginAnswer, begunRecord, begin}
@@ -47,8 +47,8 @@ put-begin used k name blob b₁ b₂ b₃ e₁ e₂ e₃ p room =
 
 -- every answer of the rows is a refusal
 refusals : (w : Record) (lent : ℕ) (name : List ℕ) → Refusals (beginRows w lent name)
-unfolding beginRows Refusals accepts
-refusals w lent name = (refl, (refl, (refl, (refl, (refl, (refl, tt))))))
+unfolding beginRows blobRows aloneRows Refusals accepts
+refusals w lent name = (refl, (refl, (refl, (refl, (refl, (refl, (refl, tt)))))))
 
 module _ (w : Record) (lent : ℕ) (name : List ℕ) where
   -- accepted exactly when no test holds
@@ -68,13 +68,13 @@ module _ (w : Record) (lent : ℕ) (name : List ℕ) where
     pub room : w .«blob_used» + length (beginBytes name) ≤ w .«blob_room»
 
   pub begin-fits : beginAnswer w lent name ≡ Done → BeginFits
-  unfolding beginRows NoneHolds
+  unfolding beginRows blobRows aloneRows NoneHolds
   begin-fits e =
       let n = begin-accepted .0 e in
       record {
-        blob = fit-blob w lent (neither (misfitRecord w) (misfitBlob w lent) (n .1 .0) .1);
-        depth = leb-false mostDepth (w .«node_depth») (n .1 .1 .0);
-        room = has-room w (length (beginBytes name)) (n .1 .1 .1 .1 .1 .0);
+        blob = fit-blob w lent (n .1 .1 .0);
+        depth = leb-false mostDepth (w .«node_depth») (n .1 .1 .1 .0);
+        room = has-room w (length (beginBytes name)) (n .1 .1 .1 .1 .1 .1 .0);
       }
 
 -- What a begin gives, by its answer.

@@ -1,7 +1,7 @@
 -- What `begin_node` answers and leaves (document 01: begin tests 18, 17, 12, 5, 10, 14).
 use mathlib.Core.Path.{_≡_}
-use mathlib.Core.Bool.{true, false, not, _||_}
-use mathlib.Core.List.{List, [], _∷_}
+use mathlib.Core.Bool.{true, false, not}
+use mathlib.Core.List.{List, [], _∷_, _++_}
 use Prim.Native.Nat.{ℕ, _+_}
 use lib.Dec.{leb}
 use lib.ListN.{length}
@@ -10,21 +10,21 @@ use Rattle.fdt_names.specs.Grammar.{word}
 use Rattle.fdt_names.specs.Names.{nodeName, hasZero}
 use Rattle.fdt_format.specs.Tokens.{beginBytes}
 use Rattle.fdt_record.specs.declared.Answer.{Answer}
-use Rattle.fdt_record.specs.declared.Answer.the-variants.{Finished, Misfit, NodeDepthTooLarge, InvalidString, InvalidNodeName, BlobRoom}
+use Rattle.fdt_record.specs.declared.Answer.the-variants.{NodeDepthTooLarge, InvalidString, InvalidNodeName, BlobRoom}
 use Rattle.fdt_record.specs.declared.Record.{Record}
 use Rattle.fdt_record.specs.Answers.{upon}
 use Rattle.fdt_record.specs.Fields.{withUsedBlob, withDepth, withEnded}
 use Rattle.fdt_record.specs.Limits.{mostDepth}
-use Rattle.fdt_record.specs.Misfits.{misfitRecord, misfitBlob, noRoom}
+use Rattle.fdt_record.specs.Misfits.{noRoom}
 use Rattle.fdt_record.specs.Rows.{Row, _⇒_, first}
+use Rattle.fdt_record.specs.Tests.{blobRows}
 use Rattle.fdt_nodes.specs.declared.Begun.{Begun}
 
 -- the tests, in their order, of a call that is lent so many bytes
 unfoldable pub beginRows : Record → ℕ → List ℕ → List Row
 beginRows w lent name =
-    (w .finished ⇒ Finished)
-    ∷ ((misfitRecord w || misfitBlob w lent) ⇒ Misfit)
-    ∷ (leb mostDepth (w .«node_depth») ⇒ NodeDepthTooLarge)
+    blobRows w lent
+    ++ (leb mostDepth (w .«node_depth») ⇒ NodeDepthTooLarge)
     ∷ (hasZero name ⇒ InvalidString)
     ∷ (not (word nodeName name) ⇒ InvalidNodeName)
     ∷ (noRoom w (length (beginBytes name)) ⇒ BlobRoom)

@@ -1,27 +1,27 @@
 -- What `end_node` answers and leaves (document 01: end tests 18, 17, 6, 14).
 use mathlib.Core.Path.{_≡_}
 use mathlib.Core.Bool.{true, not, _||_}
-use mathlib.Core.List.{List, [], _∷_}
+use mathlib.Core.List.{List, [], _∷_, _++_}
 use Prim.Native.Nat.{ℕ, _+_, _-_}
 use lib.Dec.{eqb}
 use lib.ListN.{length}
 use Rattle.fdt_bytes.specs.Splice.{splice}
 use Rattle.fdt_format.specs.Tokens.{endBytes}
 use Rattle.fdt_record.specs.declared.Answer.{Answer}
-use Rattle.fdt_record.specs.declared.Answer.the-variants.{Finished, Misfit, OutOfOrderEndNode, BlobRoom}
+use Rattle.fdt_record.specs.declared.Answer.the-variants.{OutOfOrderEndNode, BlobRoom}
 use Rattle.fdt_record.specs.declared.Outcome.{Outcome}
 use Rattle.fdt_record.specs.declared.Record.{Record}
 use Rattle.fdt_record.specs.Answers.{upon}
 use Rattle.fdt_record.specs.Fields.{withUsedBlob, withDepth, withEnded}
-use Rattle.fdt_record.specs.Misfits.{misfitRecord, misfitBlob, noRoom}
+use Rattle.fdt_record.specs.Misfits.{noRoom}
 use Rattle.fdt_record.specs.Rows.{Row, _⇒_, first}
+use Rattle.fdt_record.specs.Tests.{blobRows}
 
 -- the tests, in their order, of a call that is lent so many bytes
 unfoldable pub endRows : Record → ℕ → ℕ → List Row
 endRows w lent handle =
-    (w .finished ⇒ Finished)
-    ∷ ((misfitRecord w || misfitBlob w lent) ⇒ Misfit)
-    ∷ ((not (eqb handle (w .«node_depth»)) || eqb (w .«node_depth») 0) ⇒ OutOfOrderEndNode)
+    blobRows w lent
+    ++ ((not (eqb handle (w .«node_depth»)) || eqb (w .«node_depth») 0) ⇒ OutOfOrderEndNode)
     ∷ (noRoom w (length endBytes) ⇒ BlobRoom)
     ∷ []
 

@@ -38,14 +38,9 @@ fn begin_size(name: &[u8]) -> usize
 fn begin_tests(w: Record, lent: usize, name: &[u8]) -> Answer
     ensures { λ r. ⌜ r ≡ beginAnswer w lent (now (name .entry)) ⌝ }
 {
-    if w.finished {
-        return Answer::Finished;
-    }
-    if fdt_record::misfit_record(w) {
-        return Answer::Misfit;
-    }
-    if fdt_record::misfit_blob(w, lent) {
-        return Answer::Misfit;
+    let answer = fdt_record::blob_tests(w, lent);
+    if !fdt_record::accepted(answer) {
+        return answer;
     }
     if fdt_record::FDT_MAX_NODE_DEPTH <= w.node_depth {
         return Answer::NodeDepthTooLarge;
@@ -103,14 +98,9 @@ pub fn begin_node(w: Record, blob: &mut [u8], name: &[u8]) -> Begun
 fn end_tests(w: Record, lent: usize, node: FdtWriterNode) -> Answer
     ensures { λ r. ⌜ r ≡ endAnswer w lent (node .0) ⌝ }
 {
-    if w.finished {
-        return Answer::Finished;
-    }
-    if fdt_record::misfit_record(w) {
-        return Answer::Misfit;
-    }
-    if fdt_record::misfit_blob(w, lent) {
-        return Answer::Misfit;
+    let answer = fdt_record::blob_tests(w, lent);
+    if !fdt_record::accepted(answer) {
+        return answer;
     }
     if node.0 != w.node_depth {
         return Answer::OutOfOrderEndNode;

@@ -16,9 +16,9 @@ use Rattle.fdt_record.specs.declared.Answer.the-variants.{Done}
 use Rattle.fdt_record.specs.declared.Outcome.{Outcome}
 use Rattle.fdt_record.specs.declared.Record.{Record}
 use Rattle.fdt_record.specs.Answers.{accepts, upon}
-use Rattle.fdt_record.specs.Misfits.{misfitRecord, misfitBlob, misfitStrings}
+use Rattle.fdt_record.specs.Tests.{aloneRows, blobRows, stringsRows}
 use Rattle.fdt_record.proofs.Answers.{upon-done, left-refused}
-use Rattle.fdt_record.proofs.Fits.{neither, FitPhandles, fit-phandles}
+use Rattle.fdt_record.proofs.Fits.{FitPhandles, fit-phandles}
 use Rattle.fdt_record.proofs.Rows.{NoneHolds, Refusals, Given, accepted-exactly, refused-exactly}
 use Rattle.fdt_phandles.specs.Phandle.{recordRows, recordAnswer, phandleTable}
 
@@ -39,8 +39,8 @@ or-past a b e = simp e
 
 -- every answer of the rows is a refusal
 refusals : (w : Record) (lent : ℕ) (strings table : List ℕ) (value : ℕ) → Refusals (recordRows w lent strings table value)
-unfolding recordRows Refusals accepts
-refusals w lent strings table value = (refl, (refl, (refl, (refl, tt))))
+unfolding recordRows stringsRows blobRows aloneRows Refusals accepts
+refusals w lent strings table value = (refl, (refl, (refl, (refl, (refl, (refl, (refl, tt)))))))
 
 -- what a value that may be recorded passed, in a table of so many entries
 pub record RecordFits (w : Record) (entries : ℕ) : Type 0 where
@@ -64,15 +64,12 @@ module _ (w : Record) (lent : ℕ) (strings table : List ℕ) (value : ℕ) wher
   record-refused a r = refused-exactly (recordRows w lent strings table value) a r
 
   pub record-fits : recordAnswer w lent strings table value ≡ Done → RecordFits w (length table)
-  unfolding recordRows NoneHolds
+  unfolding recordRows stringsRows blobRows aloneRows NoneHolds
   record-fits e =
-      let n = record-accepted .0 e in
-      let n₁ = neither (misfitRecord w) _ (n .1 .0) in
-      let n₂ = neither (misfitBlob w lent) _ (n₁ .1) in
-      let n₃ = neither (misfitStrings w strings) _ (n₂ .1) in
+      let n = record-accepted .0 e .1 .1 .1 .1 in
       record {
-        phandles = fit-phandles w (length table) (n₃ .1);
-        room = leb-false (w .«phandles_room») (w .«phandles_used») (n .1 .1 .1 .0);
+        phandles = fit-phandles w (length table) (n .0);
+        room = leb-false (w .«phandles_room») (w .«phandles_used») (n .1 .1 .0);
       }
 
   -- a value that was recorded stands at the count

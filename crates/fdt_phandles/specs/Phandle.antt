@@ -1,20 +1,20 @@
 -- What `property_phandle` answers and leaves (document 01: 18, 17, 13, 16, record, then as property).
 use mathlib.Core.Path.{_≡_}
-use mathlib.Core.Bool.{_||_}
-use mathlib.Core.List.{List, [], _∷_}
+use mathlib.Core.List.{List, [], _∷_, _++_}
 use Prim.Native.Nat.{ℕ, _+_}
 use lib.Dec.{leb}
 use lib.ListN.{length, take, set}
 use Rattle.fdt_names.specs.Names.{oneOf}
 use Rattle.fdt_values.specs.Value.{Value, cells}
 use Rattle.fdt_record.specs.declared.Answer.{Answer}
-use Rattle.fdt_record.specs.declared.Answer.the-variants.{Finished, Misfit, DuplicatePhandle, PhandleRoom}
+use Rattle.fdt_record.specs.declared.Answer.the-variants.{Misfit, DuplicatePhandle, PhandleRoom}
 use Rattle.fdt_record.specs.declared.Outcome.{Outcome}
 use Rattle.fdt_record.specs.declared.Record.{Record}
 use Rattle.fdt_record.specs.Answers.{upon}
 use Rattle.fdt_record.specs.Fields.{withUsedPhandles}
-use Rattle.fdt_record.specs.Misfits.{misfitRecord, misfitBlob, misfitStrings, misfitPhandles}
+use Rattle.fdt_record.specs.Misfits.{misfitPhandles}
 use Rattle.fdt_record.specs.Rows.{Row, _⇒_, first}
+use Rattle.fdt_record.specs.Tests.{stringsRows}
 use Rattle.fdt_properties.specs.Property.{property, propertyBlob, propertyStrings}
 
 -- the fixed seven bytes `phandle`
@@ -28,8 +28,8 @@ phandleValue value = cells 4 (value ∷ [])
 -- the tests before the value is recorded, in their order
 unfoldable pub recordRows : Record → ℕ → List ℕ → List ℕ → ℕ → List Row
 recordRows w lent strings table value =
-    (w .finished ⇒ Finished)
-    ∷ ((misfitRecord w || (misfitBlob w lent || (misfitStrings w strings || misfitPhandles w (length table)))) ⇒ Misfit)
+    stringsRows w lent strings
+    ++ (misfitPhandles w (length table) ⇒ Misfit)
     ∷ (oneOf (take (w .«phandles_used») table) value ⇒ DuplicatePhandle)
     ∷ (leb (w .«phandles_room») (w .«phandles_used») ⇒ PhandleRoom)
     ∷ []

@@ -31,20 +31,12 @@ fn is_recorded(phandles: &[u32], count: usize, val: u32) -> bool
 fn record_tests(w: Record, lent: usize, strings: &[u8], phandles: &[u32], val: u32) -> Answer
     ensures { λ r. ⌜ r ≡ recordAnswer w lent (now (strings .entry)) (now (phandles .entry)) val ⌝ }
 {
-    if w.finished {
-        return Answer::Finished;
-    }
-    if fdt_record::misfit_record(w) {
-        return Answer::Misfit;
-    }
-    if fdt_record::misfit_blob(w, lent) {
-        return Answer::Misfit;
-    }
-    if fdt_record::misfit_strings(w, strings) {
-        return Answer::Misfit;
-    }
-    if fdt_record::misfit_phandles(w, phandles.len()) {
-        return Answer::Misfit;
+    let answer = fdt_record::or_misfit(
+        fdt_record::strings_tests(w, lent, strings),
+        fdt_record::misfit_phandles(w, phandles.len()),
+    );
+    if !fdt_record::accepted(answer) {
+        return answer;
     }
     if is_recorded(phandles, w.phandles_used, val) {
         return Answer::DuplicatePhandle;

@@ -1,7 +1,7 @@
 -- Nothing past the usable length is read: calls on buffers with the same usable parts give the same and leave the same usable parts.
 use mathlib.Core.Path.{_≡_, refl, sym, ap, subst, _∙_}
-use mathlib.Core.Bool.{Bool, true, false, cond, _||_}
-use mathlib.Core.List.{List, [], _∷_}
+use mathlib.Core.Bool.{true, false}
+use mathlib.Core.List.{List, [], _∷_, _++_}
 use Prim.Native.Nat.{ℕ, _+_, _≤_}
 use native.Mathlib.Omega.{arith}
 use lib.Dec.{leb}
@@ -17,16 +17,18 @@ use Rattle.fdt_strings.proofs.Places.{new-placed}
 use Rattle.fdt_values.specs.Value.{Value, valueBytes, misfitValue, zeroValue}
 use Rattle.fdt_names.specs.Names.{oneOf}
 use Rattle.fdt_record.specs.declared.Answer.{Answer}
-use Rattle.fdt_record.specs.declared.Answer.the-variants.{Finished, Misfit, DuplicatePhandle, PhandleRoom}
+use Rattle.fdt_record.specs.declared.Answer.the-variants.{Misfit, DuplicatePhandle, PhandleRoom}
 use Rattle.fdt_record.specs.declared.Outcome.{Outcome}
 use Rattle.fdt_record.specs.declared.Record.{Record}
 use Rattle.fdt_record.specs.Answers.{accepts, upon}
 use Rattle.fdt_record.specs.Limits.{blobCeiling, stringsCeiling, phandlesCeiling, usable}
-use Rattle.fdt_record.specs.Misfits.{misfitRecord, misfitBlob, misfitStrings, misfitPhandles}
-use Rattle.fdt_record.specs.Rows.{_⇒_, first}
-use Rattle.fdt_record.proofs.Answers.{accepts-done}
-use Rattle.fdt_record.proofs.Fits.{neither, fit-blob, FitStrings, fit-strings, fit-phandles}
-use Rattle.fdt_record.proofs.Rows.{NoneHolds, first-append}
+use Rattle.fdt_record.specs.Misfits.{misfitPhandles}
+use Rattle.fdt_record.specs.Rows.{Row, _⇒_, first}
+use Rattle.fdt_record.specs.Tests.{aloneRows, blobRows, stringsRows}
+use Rattle.fdt_record.proofs.Answers.{accepts-done, upon-same}
+use Rattle.fdt_record.proofs.FirstTests.{strings-refusals}
+use Rattle.fdt_record.proofs.Fits.{fit-blob, FitStrings, fit-strings, fit-phandles}
+use Rattle.fdt_record.proofs.Rows.{NoneHolds, Refusals, accepted-exactly, refusals-more, append-same}
 use Rattle.fdt_properties.specs.Property.{placeOf, offsetOf, stored, written, stateRows, nameRows, propertyRows, propertyAnswer, propertyRecord, property, propertyBlob, propertyStrings}
 use Rattle.fdt_properties.proofs.Property.{state-refusals, PropertyFits, property-fits}
 use Rattle.fdt_properties.proofs.Steps.{state-fits}
@@ -66,7 +68,7 @@ module _ (xs ys : List ℕ) (same : SameUsable blobCeiling xs ys) where
   )
 
   same-begin : (w : Record) (name : List ℕ) → beginAnswer w (length xs) name ≡ beginAnswer w (length ys) name
-  unfolding beginAnswer beginRows
+  unfolding beginAnswer beginRows blobRows
   same-begin w name = simp (same-misfit-blob w xs ys same)
 
   pub usable-begin : (w : Record) (name : List ℕ) → (begin w xs name ≡ begin w ys name) × SameUsable blobCeiling (beginBlob w xs name) (beginBlob w ys name)
@@ -80,7 +82,7 @@ module _ (xs ys : List ℕ) (same : SameUsable blobCeiling xs ys) where
   )
 
   same-end : (w : Record) (handle : ℕ) → endAnswer w (length xs) handle ≡ endAnswer w (length ys) handle
-  unfolding endAnswer endRows
+  unfolding endAnswer endRows blobRows
   same-end w handle = simp (same-misfit-blob w xs ys same)
 
   pub usable-end : (w : Record) (handle : ℕ) → (end w xs handle ≡ end w ys handle) × SameUsable blobCeiling (endBlob w xs handle) (endBlob w ys handle)
@@ -96,7 +98,7 @@ module _ (xs ys : List ℕ) (same : SameUsable blobCeiling xs ys) where
   -- Strings with the same usable part.
   module _ (ss ts : List ℕ) (alike : SameUsable stringsCeiling ss ts) where
     same-finish : (w : Record) → finishAnswer w (length xs) ss ≡ finishAnswer w (length ys) ts
-    unfolding finishAnswer finishRows
+    unfolding finishAnswer finishRows stringsRows blobRows
     same-finish w = simp (same-misfit-blob w xs ys same, same-misfit-strings w ss ts alike)
 
     -- the used strings, of a record that they fit
@@ -104,21 +106,20 @@ module _ (xs ys : List ℕ) (same : SameUsable blobCeiling xs ys) where
     same-used w f = same-front stringsCeiling (w .«strings_used») ss ts alike (omega (arith, f .room, f .used))
 
     pub usable-finish : (w : Record) → (finish w (length xs) ss ≡ finish w (length ys) ts) × SameUsable blobCeiling (finishBlob w xs ss) (finishBlob w ys ts)
-    unfolding finish finishBlob finishedBlob usedStrings finishRows NoneHolds
+    unfolding finish finishBlob finishedBlob usedStrings finishRows stringsRows blobRows aloneRows NoneHolds
     usable-finish w = (
       simp (same-finish w),
       same-upon blobCeiling (same-finish w) xs ys _ _ same
           (λ e.
           let done = accepts-done (finishAnswer w (length xs) ss) e in
           let f = finish-fits w (length xs) ss done in
-          let n = neither (misfitRecord w) (misfitBlob w (length xs) || misfitStrings w ss) (finish-accepted w (length xs) ss .0 done .1 .0) in
-          let m = neither (misfitBlob w (length xs)) (misfitStrings w ss) (n .1) in
-          let fb = fit-blob w (length xs) (m .0) in
+          let n = finish-accepted w (length xs) ss .0 done .1 .1 in
+          let fb = fit-blob w (length xs) (n .0) in
           let used = w .«blob_used» in
           let final = finalBytes (take (w .«strings_used») ss) in
           let l : length final ≡ 4 + w .«strings_used» = length-final (take (w .«strings_used») ss) ∙ ap (λ (k : ℕ). 4 + k) (length-take-le (w .«strings_used») ss (f .stored)) in
           let middle : SameUsable blobCeiling (splice used final xs) (splice used (finalBytes (take (w .«strings_used») ts)) ys) =
-          subst (λ (s : List ℕ). SameUsable blobCeiling (splice used final xs) (splice used (finalBytes s) ys)) (same-used w (fit-strings w ss (m .1)))
+          subst (λ (s : List ℕ). SameUsable blobCeiling (splice used final xs) (splice used (finalBytes s) ys)) (same-used w (fit-strings w ss (n .1 .0)))
           (same-splice blobCeiling used final xs ys same (omega (arith, l, fb .room, f .room)))
           in
           let k : usable blobCeiling (length (splice used final xs)) ≡ usable blobCeiling (length xs) = ap (usable blobCeiling) (length-splice used final xs (omega (arith, l, f .room, f .within))) in
@@ -132,13 +133,8 @@ module _ (xs ys : List ℕ) (same : SameUsable blobCeiling xs ys) where
       state-answer lent strings = first (stateRows w lent strings (misfitValue v) (zeroValue v))
 
       same-state : state-answer (length xs) ss ≡ state-answer (length ys) ts
-      unfolding stateRows state-answer
+      unfolding stateRows stringsRows blobRows state-answer
       same-state = simp (same-misfit-blob w xs ys same, same-misfit-strings w ss ts alike)
-
-      two-steps : (lent : ℕ) (strings : List ℕ) → propertyAnswer w lent strings name v ≡ upon (state-answer lent strings) (first (nameRows w strings name (length (valueBytes v)))) (state-answer lent strings)
-      unfolding propertyAnswer propertyRows state-answer
-      two-steps lent strings =
-          first-append (stateRows w lent strings (misfitValue v) (zeroValue v)) (nameRows w strings name (length (valueBytes v))) (state-refusals w lent strings (misfitValue v) (zeroValue v))
 
       same-place : FitStrings w ss → placeOf w ss name ≡ placeOf w ts name
       unfolding placeOf
@@ -149,24 +145,15 @@ module _ (xs ys : List ℕ) (same : SameUsable blobCeiling xs ys) where
       same-names f = simp (same-place f)
 
       same-property : propertyAnswer w (length xs) ss name v ≡ propertyAnswer w (length ys) ts name v
-      unfolding state-answer
+      unfolding propertyAnswer propertyRows state-answer
       same-property =
-          two-steps (length xs) ss
-          ∙ by (accepts (state-answer (length xs) ss)) (λ e. same-names (state-fits w (length xs) ss name v refl refl refl e .names))
-          ∙ ap (λ (a : Answer). upon a (first (nameRows w ts name (length (valueBytes v)))) a) same-state
-          ∙ sym (two-steps (length ys) ts)
-        where
-          by : (b : Bool) → (b ≡ true → first (nameRows w ss name (length (valueBytes v))) ≡ first (nameRows w ts name (length (valueBytes v)))) → cond b (first (nameRows w ss name (length (valueBytes v)))) (state-answer (length xs) ss) ≡ cond b (first (nameRows w ts name (length (valueBytes v)))) (state-answer (length xs) ss)
-          by true f = f refl
-          by false f = refl
+          append-same (stateRows w (length xs) ss (misfitValue v) (zeroValue v)) (stateRows w (length ys) ts (misfitValue v) (zeroValue v)) (nameRows w ss name (length (valueBytes v))) (nameRows w ts name (length (valueBytes v)))
+          (state-refusals w (length xs) ss (misfitValue v) (zeroValue v)) (state-refusals w (length ys) ts (misfitValue v) (zeroValue v)) same-state
+          (λ e. same-names (state-fits w (length xs) ss v refl refl refl e .names))
 
       -- what is the same where the answer accepts
       accepted-same : {A : Type 0} (x x′ y : A) → (accepts (propertyAnswer w (length xs) ss name v) ≡ true → x ≡ x′) → upon (propertyAnswer w (length xs) ss name v) x y ≡ upon (propertyAnswer w (length ys) ts name v) x′ y
-      accepted-same {A} x x′ y f = by (accepts (propertyAnswer w (length xs) ss name v)) f ∙ ap (λ (a : Answer). upon a x′ y) same-property
-        where
-          by : (b : Bool) → (b ≡ true → x ≡ x′) → cond b x y ≡ cond b x′ y
-          by true f = f refl
-          by false f = refl
+      accepted-same {A} x x′ y f = upon-same (propertyAnswer w (length xs) ss name v) x x′ y f ∙ ap (λ (a : Answer). upon a x′ y) same-property
 
       fits : accepts (propertyAnswer w (length xs) ss name v) ≡ true → PropertyFits w (length xs) ss name v
       fits e = property-fits w (length xs) ss name v (accepts-done (propertyAnswer w (length xs) ss name v) e)
@@ -213,31 +200,37 @@ module _ (xs ys : List ℕ) (same : SameUsable blobCeiling xs ys) where
           let f = fit-phandles w (length ps) e in
           ap (λ (l : List ℕ). oneOf l value) (same-front phandlesCeiling (w .«phandles_used») ps qs akin (omega (arith, f .room, f .used)))
 
-      -- the rows of a phandle, by the tests that read the buffers
-      answer-by : Bool → Bool → Answer
-      answer-by misfit known =
-          first ((w .finished ⇒ Finished) ∷ (misfit ⇒ Misfit) ∷ (known ⇒ DuplicatePhandle) ∷ (leb (w .«phandles_room») (w .«phandles_used») ⇒ PhandleRoom) ∷ [])
+      -- the first tests, with the table's misfit
+      first-tests : (lent : ℕ) (strings table : List ℕ) → List Row
+      first-tests lent strings table = stringsRows w lent strings ++ (misfitPhandles w (length table) ⇒ Misfit) ∷ []
 
-      misfit : Bool
-      misfit = misfitRecord w || (misfitBlob w (length xs) || (misfitStrings w ss || misfitPhandles w (length ps)))
+      refusals : (lent : ℕ) (strings table : List ℕ) → Refusals (first-tests lent strings table)
+      unfolding first-tests
+      refusals lent strings table = refusals-more (stringsRows w lent strings) (strings-refusals w lent strings) (misfitPhandles w (length table))
 
-      phandles-fit : misfit ≡ false → misfitPhandles w (length ps) ≡ false
-      unfolding misfit
+      same-first : first (first-tests (length xs) ss ps) ≡ first (first-tests (length ys) ts qs)
+      unfolding first-tests stringsRows blobRows
+      same-first = simp (same-misfit-blob w xs ys same, same-misfit-strings w ss ts alike, same-phandles)
+
+      phandles-fit : accepts (first (first-tests (length xs) ss ps)) ≡ true → misfitPhandles w (length ps) ≡ false
+      unfolding first-tests stringsRows blobRows aloneRows NoneHolds
       phandles-fit e =
-          let n₁ = neither (misfitRecord w) (misfitBlob w (length xs) || (misfitStrings w ss || misfitPhandles w (length ps))) e in
-          let n₂ = neither (misfitBlob w (length xs)) (misfitStrings w ss || misfitPhandles w (length ps)) (n₁ .1) in
-          neither (misfitStrings w ss) (misfitPhandles w (length ps)) (n₂ .1) .1
+          let rows = first-tests (length xs) ss ps in accepted-exactly rows (refusals (length xs) ss ps) .0 (accepts-done (first rows) e) .1 .1 .1 .1 .0
 
-      -- what is known makes a difference only to a record that fits
-      known-or-misfit : (m : Bool) → misfit ≡ m → answer-by m (oneOf (take (w .«phandles_used») ps) value) ≡ answer-by m (oneOf (take (w .«phandles_used») qs) value)
-      unfolding answer-by first
-      known-or-misfit true e = refl
-      known-or-misfit false e = simp (same-known (phandles-fit e))
+      -- the tests of the table
+      table-tests : List ℕ → List Row
+      table-tests table =
+          (oneOf (take (w .«phandles_used») table) value ⇒ DuplicatePhandle) ∷ (leb (w .«phandles_room») (w .«phandles_used») ⇒ PhandleRoom) ∷ []
+
+      same-table : misfitPhandles w (length ps) ≡ false → first (table-tests ps) ≡ first (table-tests qs)
+      unfolding table-tests
+      same-table e = simp (same-known e)
 
       same-record : recordAnswer w (length xs) ss ps value ≡ recordAnswer w (length ys) ts qs value
-      unfolding recordAnswer recordRows answer-by misfit
+      unfolding recordAnswer recordRows first-tests table-tests stringsRows blobRows aloneRows
       same-record =
-          known-or-misfit misfit refl ∙ simp (same-misfit-blob w xs ys same, same-misfit-strings w ss ts alike, same-phandles)
+          append-same (first-tests (length xs) ss ps) (first-tests (length ys) ts qs) (table-tests ps) (table-tests qs)
+          (refusals (length xs) ss ps) (refusals (length ys) ts qs) same-first (λ e. same-table (phandles-fit e))
 
       pub usable-phandle :
           (phandle w (length xs) ss ps value ≡ phandle w (length ys) ts qs value)

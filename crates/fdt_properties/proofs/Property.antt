@@ -1,6 +1,6 @@
 -- Laws of a property: its three writes as one, what an accepted one passed, and exactly when each answer is given.
 use mathlib.Core.Path.{_≡_, refl, sym, ap, _∙_}
-use mathlib.Core.Bool.{Bool, false, _||_}
+use mathlib.Core.Bool.{Bool, false}
 use mathlib.Core.List.{List, [], _∷_, _++_}
 use mathlib.Core.Logic.{_↔_}
 use Prim.Native.Nat.{ℕ, _+_, _≤_, _<_}
@@ -17,8 +17,8 @@ use Rattle.fdt_record.specs.declared.Answer.{Answer}
 use Rattle.fdt_record.specs.declared.Answer.the-variants.{Done}
 use Rattle.fdt_record.specs.declared.Record.{Record}
 use Rattle.fdt_record.specs.Answers.{accepts}
-use Rattle.fdt_record.specs.Misfits.{misfitRecord, misfitBlob, misfitStrings}
-use Rattle.fdt_record.proofs.Fits.{neither, FitRecord, fit-record, FitBlob, fit-blob, FitStrings, fit-strings, has-room}
+use Rattle.fdt_record.specs.Tests.{aloneRows, blobRows, stringsRows}
+use Rattle.fdt_record.proofs.Fits.{FitRecord, fit-record, FitBlob, fit-blob, FitStrings, fit-strings, has-room}
 use Rattle.fdt_record.proofs.Rows.{NoneHolds, Refusals, Given, accepted-exactly, refused-exactly}
 use Rattle.fdt_properties.specs.Property.{placeOf, isFull, stateRows, nameRows, propertyRows, propertyAnswer}
 
@@ -35,12 +35,12 @@ put-property used offset len k value blob b₁ b₂ b₃ s e₁ e₂ e₃ p room
 
 -- every answer of the rows is a refusal
 pub state-refusals : (w : Record) (lent : ℕ) (strings : List ℕ) (misfit zero : Bool) → Refusals (stateRows w lent strings misfit zero)
-unfolding stateRows Refusals accepts
-state-refusals w lent strings misfit zero = (refl, (refl, (refl, (refl, (refl, tt)))))
+unfolding stateRows stringsRows blobRows aloneRows Refusals accepts
+state-refusals w lent strings misfit zero = (refl, (refl, (refl, (refl, (refl, (refl, (refl, (refl, tt))))))))
 
 refusals : (w : Record) (lent : ℕ) (strings name : List ℕ) (v : Value) → Refusals (propertyRows w lent strings name v)
-unfolding propertyRows stateRows nameRows Refusals accepts
-refusals w lent strings name v = (refl, (refl, (refl, (refl, (refl, (refl, (refl, (refl, (refl, tt)))))))))
+unfolding propertyRows stateRows stringsRows blobRows aloneRows nameRows Refusals accepts
+refusals w lent strings name v = (refl, (refl, (refl, (refl, (refl, (refl, (refl, (refl, (refl, (refl, (refl, (refl, tt))))))))))))
 
 module _ (w : Record) (lent : ℕ) (strings name : List ℕ) (v : Value) where
   -- accepted exactly when no test holds
@@ -63,17 +63,15 @@ module _ (w : Record) (lent : ℕ) (strings name : List ℕ) (v : Value) where
     pub room : w .«blob_used» + (12 + roundUp 4 (length (valueBytes v))) ≤ w .«blob_room»
 
   pub property-fits : propertyAnswer w lent strings name v ≡ Done → PropertyFits
-  unfolding propertyRows stateRows nameRows NoneHolds
+  unfolding propertyRows stateRows stringsRows blobRows aloneRows nameRows NoneHolds
   property-fits e =
-      let n = property-accepted .0 e in
-      let n₁ = neither (misfitRecord w) (misfitBlob w lent || (misfitStrings w strings || misfitValue v)) (n .1 .0) in
-      let n₂ = neither (misfitBlob w lent) (misfitStrings w strings || misfitValue v) (n₁ .1) in
-      let n₃ = neither (misfitStrings w strings) (misfitValue v) (n₂ .1) in
+      let n = property-accepted .0 e .1 in
+      let m = n .1 .1 .1 in
       record {
-        figures = fit-record w (n₁ .0);
-        blob = fit-blob w lent (n₂ .0);
-        names = fit-strings w strings (n₃ .0);
-        value = n₃ .1;
-        placed = n .1 .1 .1 .1 .1 .1 .1 .0;
-        room = has-room w (12 + roundUp 4 (length (valueBytes v))) (n .1 .1 .1 .1 .1 .1 .1 .1 .0);
+        figures = fit-record w (n .0);
+        blob = fit-blob w lent (n .1 .0);
+        names = fit-strings w strings (n .1 .1 .0);
+        value = m .0;
+        placed = m .1 .1 .1 .1 .1 .1 .0;
+        room = has-room w (12 + roundUp 4 (length (valueBytes v))) (m .1 .1 .1 .1 .1 .1 .1 .0);
       }

@@ -1,7 +1,7 @@
 -- What `property` and the calls of its kinds answer and leave (document 01: property tests 18, 17, 2, 1, 5, 11, 15, 14;
 -- string and string list 18, 17, 5 for a value, then as property).
 use mathlib.Core.Path.{_≡_}
-use mathlib.Core.Bool.{Bool, true, false, not, _||_}
+use mathlib.Core.Bool.{Bool, true, false, not}
 use mathlib.Core.List.{List, [], _∷_, _++_}
 use Prim.Native.Nat.{ℕ, _+_, _≤_}
 use lib.Dec.{eqb}
@@ -17,13 +17,14 @@ use Rattle.fdt_strings.specs.Interned.{interned}
 use Rattle.fdt_format.specs.Tokens.{propertyBytes}
 use Rattle.fdt_values.specs.Value.{Value, valueBytes, misfitValue, zeroValue}
 use Rattle.fdt_record.specs.declared.Answer.{Answer}
-use Rattle.fdt_record.specs.declared.Answer.the-variants.{Finished, Misfit, PropertyAfterEndNode, PropertyBeforeBeginNode, InvalidString, InvalidPropertyName, StringRoom, BlobRoom}
+use Rattle.fdt_record.specs.declared.Answer.the-variants.{Misfit, PropertyAfterEndNode, PropertyBeforeBeginNode, InvalidString, InvalidPropertyName, StringRoom, BlobRoom}
 use Rattle.fdt_record.specs.declared.Outcome.{Outcome}
 use Rattle.fdt_record.specs.declared.Record.{Record}
 use Rattle.fdt_record.specs.Answers.{upon}
 use Rattle.fdt_record.specs.Fields.{withUsedBlob, withUsedStrings}
-use Rattle.fdt_record.specs.Misfits.{misfitRecord, misfitBlob, misfitStrings, noRoom}
+use Rattle.fdt_record.specs.Misfits.{noRoom}
 use Rattle.fdt_record.specs.Rows.{Row, _⇒_, first}
+use Rattle.fdt_record.specs.Tests.{stringsRows}
 
 -- where the name stands in the used strings, or would stand
 unfoldable pub placeOf : Record → List ℕ → List ℕ → Interned
@@ -38,8 +39,8 @@ isFull place.StringRoom = true
 -- the tests of the record and of the value, in their order; `misfit` and `zero` are the value's
 unfoldable pub stateRows : Record → ℕ → List ℕ → Bool → Bool → List Row
 stateRows w lent strings misfit zero =
-    (w .finished ⇒ Finished)
-    ∷ ((misfitRecord w || (misfitBlob w lent || (misfitStrings w strings || misfit))) ⇒ Misfit)
+    stringsRows w lent strings
+    ++ (misfit ⇒ Misfit)
     ∷ (zero ⇒ InvalidString)
     ∷ (w .«node_ended» ⇒ PropertyAfterEndNode)
     ∷ (eqb (w .«node_depth») 0 ⇒ PropertyBeforeBeginNode)

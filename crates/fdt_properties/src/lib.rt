@@ -56,20 +56,9 @@ fn added_by(place: Interned, name: &[u8]) -> usize
 fn state_tests(w: Record, lent: usize, strings: &[u8], misfit: bool, zero: bool) -> Answer
     ensures { λ r. ⌜ r ≡ first (stateRows w lent (now (strings .entry)) misfit zero) ⌝ }
 {
-    if w.finished {
-        return Answer::Finished;
-    }
-    if fdt_record::misfit_record(w) {
-        return Answer::Misfit;
-    }
-    if fdt_record::misfit_blob(w, lent) {
-        return Answer::Misfit;
-    }
-    if fdt_record::misfit_strings(w, strings) {
-        return Answer::Misfit;
-    }
-    if misfit {
-        return Answer::Misfit;
+    let answer = fdt_record::or_misfit(fdt_record::strings_tests(w, lent, strings), misfit);
+    if !fdt_record::accepted(answer) {
+        return answer;
     }
     if zero {
         return Answer::InvalidString;

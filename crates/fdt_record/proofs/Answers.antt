@@ -1,6 +1,6 @@
 -- Acceptance and refusal: what `upon` picks, and that a refusal is no acceptance.
 use mathlib.Core.Path.{_≡_, refl, sym, ap, _∙_}
-use mathlib.Core.Bool.{true, false, true≢false}
+use mathlib.Core.Bool.{Bool, true, false, cond, true≢false}
 use mathlib.Core.List.{List, [], _∷_}
 use Prim.Native.Nat.{ℕ}
 use types.Run.{OneOf, miss}
@@ -19,6 +19,14 @@ module _ {A : Type 0} (answer : Answer) (accepted refused : A) where
 
   pub upon-refused : accepts answer ≡ false → upon answer accepted refused ≡ refused
   upon-refused e = simp e
+
+-- what is the same where the answer accepts
+pub upon-same : {A : Type 0} (answer : Answer) (one other refused : A) → (accepts answer ≡ true → one ≡ other) → upon answer one refused ≡ upon answer other refused
+upon-same answer one other refused f = by (accepts answer) f
+  where
+    by : (b : Bool) → (b ≡ true → one ≡ other) → cond b one refused ≡ cond b other refused
+    by true f = f refl
+    by false f = refl
 
 -- An answer that was told, and what is left by it.
 module _ (a b : Answer) (told : a ≡ b) where

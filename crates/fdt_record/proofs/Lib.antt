@@ -1,4 +1,5 @@
 pub mod Answers
+pub mod FirstTests
 pub mod Fits
 pub mod Rows
 pub mod Tests

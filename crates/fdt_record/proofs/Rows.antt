@@ -1,12 +1,13 @@
 -- Laws of rows: the first row that holds answers, exactly; where none holds the call is accepted.
 use mathlib.Core.Path.{_≡_, refl, sym, ap, _∙_}
-use mathlib.Core.Bool.{Bool, true, false, true≢false}
+use mathlib.Core.Bool.{Bool, true, false, cond, true≢false}
 use mathlib.Core.List.{List, [], _∷_, _++_}
 use mathlib.Core.Logic.{_↔_}
 use Rattle.fdt_record.specs.declared.Answer.{Answer}
-use Rattle.fdt_record.specs.declared.Answer.the-variants.{Done}
+use Rattle.fdt_record.specs.declared.Answer.the-variants.{Done, Misfit}
 use Rattle.fdt_record.specs.Answers.{accepts, upon}
 use Rattle.fdt_record.specs.Rows.{Row, _⇒_, first}
+use Rattle.fdt_record.proofs.Answers.{accepts-done, upon-done, upon-refused, upon-same}
 
 -- A test that fails is passed over, and one that holds answers.
 module _ (a : Answer) (rows : List Row) where
@@ -86,3 +87,34 @@ unfolding first Refusals accepts
 first-append [] more r = refl
 first-append ((true ⇒ a) ∷ rows) more r = sym (simp (r .0))
 first-append ((false ⇒ a) ∷ rows) more r = first-append rows more (r .1)
+
+-- rows that answer alike, and later ones that do so where those accept
+pub append-same : (rows rows′ more more′ : List Row) → Refusals rows → Refusals rows′ → first rows ≡ first rows′ → (accepts (first rows) ≡ true → first more ≡ first more′) → first (rows ++ more) ≡ first (rows′ ++ more′)
+append-same rows rows′ more more′ r r′ e f =
+    first-append rows more r ∙ upon-same (first rows) (first more) (first more′) (first rows) f
+    ∙ ap (λ (a : Answer). upon a (first more′) a) e ∙ sym (first-append rows′ more′ r′)
+
+-- one more misfit is one more refusal
+pub refusals-more : (rows : List Row) → Refusals rows → (b : Bool) → Refusals (rows ++ (b ⇒ Misfit) ∷ [])
+unfolding Refusals accepts
+refusals-more [] r b = (refl, tt)
+refusals-more ((c ⇒ a) ∷ rows) r b = (r .0, refusals-more rows (r .1) b)
+
+-- Rows that gave an answer, and what follows them.
+module _ (rows : List Row) (refusals : Refusals rows) {a : Answer} (told : a ≡ first rows) where
+  -- a refusal is the answer, whatever follows
+  pub stands : (more : List Row) → accepts a ≡ false → a ≡ first (rows ++ more)
+  stands more r =
+      told ∙ sym (first-append rows more refusals ∙ upon-refused (first rows) (first more) (first rows) (ap accepts (sym told) ∙ r))
+
+  -- where they accept, what follows answers
+  pub goes-on : (more : List Row) → accepts a ≡ true → first (rows ++ more) ≡ first more
+  goes-on more r =
+      first-append rows more refusals ∙ upon-done (first rows) (first more) (first rows) (sym told ∙ accepts-done a r)
+
+  -- what follows is one more misfit
+  pub one-more : {m b : Bool} → m ≡ b → upon a (cond m Misfit Done) a ≡ first (rows ++ (b ⇒ Misfit) ∷ [])
+  unfolding first
+  one-more {m} {b} e =
+      ap (λ (x : Bool). upon a (cond x Misfit Done) a) e ∙ ap (λ (x : Answer). upon x (cond b Misfit Done) x) told
+      ∙ sym (first-append rows ((b ⇒ Misfit) ∷ []) refusals)

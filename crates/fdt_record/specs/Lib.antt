@@ -3,3 +3,4 @@ pub mod Fields
 pub mod Limits
 pub mod Misfits
 pub mod Rows
+pub mod Tests

@@ -1,9 +1,13 @@
 // The writer's record, its answers, its limits, and the tests of a record against what is lent.
 ghost use mathlib.Core.Path.{_≡_};
+ghost use mathlib.Core.Bool.{cond};
 ghost use lib.ListN.{length};
-ghost use Rattle.fdt_record.specs.Answers.{numberOf, accepts};
+ghost use Rattle.fdt_record.specs.declared.Answer.the-variants.{Done, Misfit};
+ghost use Rattle.fdt_record.specs.Answers.{numberOf, accepts, upon};
 ghost use Rattle.fdt_record.specs.Limits.{usable};
 ghost use Rattle.fdt_record.specs.Misfits.{misfitRecord, misfitBlob, misfitStrings, misfitPhandles, noRoom};
+ghost use Rattle.fdt_record.specs.Rows.{first};
+ghost use Rattle.fdt_record.specs.Tests.{aloneRows, blobRows, stringsRows};
 
 // The longest blob, in bytes.
 pub const BLOB_CEILING: usize = 65_536;
@@ -163,6 +167,46 @@ pub fn misfit_phandles(w: Record, lent: usize) -> bool
         return true;
     }
     w.phandles_room < w.phandles_used
+}
+
+// The first tests of a call that is lent nothing: 18, and 17 for the record.
+pub fn alone_tests(w: Record) -> Answer
+    ensures { λ r. ⌜ r ≡ first (aloneRows w) ⌝ }
+{
+    if w.finished {
+        return Answer::Finished;
+    }
+    if misfit_record(w) {
+        return Answer::Misfit;
+    }
+    Answer::Done
+}
+
+// An answer or, where it is acceptance, 17 for one more misfit.
+pub fn or_misfit(answer: Answer, misfit: bool) -> Answer
+    ensures { λ r. ⌜ r ≡ upon answer (cond misfit Misfit Done) answer ⌝ }
+{
+    if !accepted(answer) {
+        return answer;
+    }
+    if misfit {
+        return Answer::Misfit;
+    }
+    Answer::Done
+}
+
+// The first tests of a call that is lent a blob of so many bytes: also 17 for the blob.
+pub fn blob_tests(w: Record, lent: usize) -> Answer
+    ensures { λ r. ⌜ r ≡ first (blobRows w lent) ⌝ }
+{
+    or_misfit(alone_tests(w), misfit_blob(w, lent))
+}
+
+// The first tests of a call that is lent such a blob and strings: also 17 for the strings.
+pub fn strings_tests(w: Record, lent: usize, strings: &[u8]) -> Answer
+    ensures { λ r. ⌜ r ≡ first (stringsRows w lent (now (strings .entry))) ⌝ }
+{
+    or_misfit(blob_tests(w, lent), misfit_strings(w, strings))
 }
 
 // Whether so many bytes more have no room in the blob.

@@ -1,71 +1,72 @@
 -- `begin_tests` meets its contract: the rows of the tests that failed are passed over, and the one that held answers.
-use mathlib.Core.Path.{sym, ap, _∙_}
+use mathlib.Core.Path.{_≡_, sym, ap, _∙_}
 use mathlib.Core.Bool.{not}
-use borrow.Author.Tests.{le-leb, lt-leb}
-use Rattle.fdt_record.specs.Misfits.{misfitRecord, noRoom}
-use Rattle.fdt_record.proofs.Rows.{skip, hit, done}
-use Rattle.fdt_record.proofs.Tests.{or-first, or-second, or-none}
-use Rattle.fdt_nodes.specs.Begin.{beginRows, beginAnswer}
+use Prim.Native.Nat.{ℕ}
 use borrow.Author.Needs.{needs}
+use borrow.Author.Tests.{le-leb, lt-leb, not-true, not-false}
+use lib.ListN.{drop, length}
+use Rattle.fdt_format.specs.Tokens.{beginBytes}
+use Rattle.fdt_record.specs.Misfits.{noRoom}
+use Rattle.fdt_record.specs.Rows.{first}
+use Rattle.fdt_record.specs.Tests.{aloneRows, blobRows}
+use Rattle.fdt_record.proofs.FirstTests.{blob-refusals}
+use Rattle.fdt_record.proofs.Rows.{skip, hit, done, stands, goes-on}
+use Rattle.fdt_nodes.specs.Begin.{beginRows, beginAnswer}
 use Rattle.fdt_nodes.proofs.begin_tests.Statement.{statement}
 use Rattle.fdt_nodes.proofs.begin_tests.Tie as tie
 
+-- the first k tests failed
+abbrev Passed : ℕ → tie.Start → Type 0
+Passed k s =
+    let a = s .args in beginAnswer (a .w) (a .lent) (a .name .now) ≡ first (drop k (beginRows (a .w) (a .lent) (a .name .now)))
+
+passed-3 : (c : tie.Else1) → Passed 3 (c .before .before .before .before)
+unfolding beginAnswer beginRows blobRows aloneRows
+passed-3 c = goes-on _ (blob-refusals _ _) (c .before .before .blob-tests .ensures) _ (sym (c .before .accepted .ensures) ∙ not-false _ (c .if1 .left))
+
+passed-4 : (c : tie.Else2) → Passed 4 (c .before .before .before .before .before .before)
+unfolding beginRows blobRows aloneRows
+passed-4 c = passed-3 (c .before .before) ∙ skip _ _ (lt-leb 64 _ (c .if2 .left))
+
+passed-5 : (c : tie.Else3) → Passed 5 (c .before .before .before .before .before .before .before .before)
+unfolding beginRows blobRows aloneRows
+passed-5 c = passed-4 (c .before .before) ∙ skip _ _ (sym (c .before .has-zero .ensures) ∙ c .if3 .left)
+
+passed-6 : (c : tie.Else4) → Passed 6 (c .before .before .before .before .before .before .before .before .before .before)
+unfolding beginRows blobRows aloneRows
+passed-6 c = passed-5 (c .before .before) ∙ skip _ _ (ap not (sym (c .before .node-name-valid .ensures)) ∙ c .if4 .left)
+
+-- whether the node's beginning has no room
+room : (c : tie.After-no-room) → let a = c .before .before .before .before .before .before .before .before .before .before .before .before .args in noRoom (a .w) (length (beginBytes (a .name .now))) ≡ c .no-room .result
+room c = sym (c .no-room .ensures ∙ ap (noRoom _) (c .before .begin-size .ensures))
+
+blob-tests-requires : tie.Need-blob-tests-requires
+blob-tests-requires c κs = search needs
+
+accepted-requires : tie.Need-accepted-requires
+accepted-requires c κs = search needs
+
 returns : tie.Need-returns
 unfolding beginAnswer beginRows
-returns c = sym (hit _ _ (c .if1 .taken))
-
-misfit-record-requires : tie.Need-misfit-record-requires
-misfit-record-requires c κs = search needs
+returns c = stands _ (blob-refusals _ _) (c .before .before .blob-tests .ensures) _ (sym (c .before .accepted .ensures) ∙ not-true _ (c .if1 .taken))
 
 returns-2 : tie.Need-returns-2
-unfolding beginAnswer beginRows
-returns-2 c =
-    sym
-    (skip _ _ (c .before .before .if1 .left)
-    ∙ hit _ _ (or-first _ _ (sym (c .before .misfit-record .ensures) ∙ c .if2 .taken)))
-
-misfit-blob-requires : tie.Need-misfit-blob-requires
-misfit-blob-requires c κs = search needs
-
-returns-3 : tie.Need-returns-3
-unfolding beginAnswer beginRows
-returns-3 c =
-    sym
-    (skip _ _ (c .before .before .before .before .if1 .left)
-    ∙ hit _ _ (or-second (misfitRecord (c .before .before .before .before .before .before .args .w)) _ (sym (c .before .misfit-blob .ensures) ∙ c .if3 .taken)))
-
-returns-4 : tie.Need-returns-4
-unfolding beginAnswer beginRows
-returns-4 c =
-    sym
-    (skip _ _ (c .before .before .before .before .before .before .if1 .left)
-    ∙ skip _ _ (or-none _ _ (sym (c .before .before .before .before .before .misfit-record .ensures) ∙ c .before .before .before .before .if2 .left) (sym (c .before .before .before .misfit-blob .ensures) ∙ c .before .before .if3 .left))
-    ∙ hit _ _ (le-leb 64 (c .before .before .before .before .before .before .before .before .args .w .«node_depth») (c .if4 .taken)))
+unfolding beginRows blobRows aloneRows
+returns-2 c = sym (passed-3 (c .before .before) ∙ hit _ _ (le-leb 64 _ (c .if2 .taken)))
 
 has-zero-requires : tie.Need-has-zero-requires
 has-zero-requires c κs = search needs
 
-returns-5 : tie.Need-returns-5
-unfolding beginAnswer beginRows
-returns-5 c =
-    sym
-    (skip _ _ (c .before .before .before .before .before .before .before .before .if1 .left)
-    ∙ skip _ _ (or-none _ _ (sym (c .before .before .before .before .before .before .before .misfit-record .ensures) ∙ c .before .before .before .before .before .before .if2 .left) (sym (c .before .before .before .before .before .misfit-blob .ensures) ∙ c .before .before .before .before .if3 .left))
-    ∙ skip _ _ (lt-leb 64 (c .before .before .before .before .before .before .before .before .before .before .args .w .«node_depth») (c .before .before .if4 .left))
-    ∙ hit _ _ (sym (c .before .has-zero .ensures) ∙ c .if5 .taken))
+returns-3 : tie.Need-returns-3
+unfolding beginRows blobRows aloneRows
+returns-3 c = sym (passed-4 (c .before .before) ∙ hit _ _ (sym (c .before .has-zero .ensures) ∙ c .if3 .taken))
 
 node-name-valid-requires : tie.Need-node-name-valid-requires
 node-name-valid-requires c κs = search needs
 
-returns-6 : tie.Need-returns-6
-unfolding beginAnswer beginRows
-returns-6 c =
-    sym
-    (skip _ _ (c .before .before .before .before .before .before .before .before .before .before .if1 .left)
-    ∙ skip _ _ (or-none _ _ (sym (c .before .before .before .before .before .before .before .before .before .misfit-record .ensures) ∙ c .before .before .before .before .before .before .before .before .if2 .left) (sym (c .before .before .before .before .before .before .before .misfit-blob .ensures) ∙ c .before .before .before .before .before .before .if3 .left))
-    ∙ skip _ _ (lt-leb 64 (c .before .before .before .before .before .before .before .before .before .before .before .before .args .w .«node_depth») (c .before .before .before .before .if4 .left))
-    ∙ skip _ _ (sym (c .before .before .before .has-zero .ensures) ∙ c .before .before .if5 .left)
-    ∙ hit _ _ (ap not (sym (c .before .node-name-valid .ensures)) ∙ c .if6 .taken))
+returns-4 : tie.Need-returns-4
+unfolding beginRows blobRows aloneRows
+returns-4 c = sym (passed-5 (c .before .before) ∙ hit _ _ (ap not (sym (c .before .node-name-valid .ensures)) ∙ c .if4 .taken))
 
 begin-size-requires : tie.Need-begin-size-requires
 begin-size-requires c κs = search needs
@@ -73,44 +74,27 @@ begin-size-requires c κs = search needs
 no-room-requires : tie.Need-no-room-requires
 no-room-requires c κs = search needs
 
-returns-7 : tie.Need-returns-7
-unfolding beginAnswer beginRows
-returns-7 c =
-    sym
-    (skip _ _ (c .before .before .before .before .before .before .before .before .before .before .before .before .before .if1 .left)
-    ∙ skip _ _ (or-none _ _ (sym (c .before .before .before .before .before .before .before .before .before .before .before .before .misfit-record .ensures) ∙ c .before .before .before .before .before .before .before .before .before .before .before .if2 .left) (sym (c .before .before .before .before .before .before .before .before .before .before .misfit-blob .ensures) ∙ c .before .before .before .before .before .before .before .before .before .if3 .left))
-    ∙ skip _ _ (lt-leb 64 (c .before .before .before .before .before .before .before .before .before .before .before .before .before .before .before .args .w .«node_depth») (c .before .before .before .before .before .before .before .if4 .left))
-    ∙ skip _ _ (sym (c .before .before .before .before .before .before .has-zero .ensures) ∙ c .before .before .before .before .before .if5 .left)
-    ∙ skip _ _ (ap not (sym (c .before .before .before .before .node-name-valid .ensures)) ∙ c .before .before .before .if6 .left)
-    ∙ hit _ _ (sym (c .before .no-room .ensures ∙ ap (noRoom (c .before .before .before .before .before .before .before .before .before .before .before .before .before .before .before .args .w)) (c .before .before .begin-size .ensures)) ∙ c .if7 .taken))
+returns-5 : tie.Need-returns-5
+unfolding beginRows blobRows aloneRows
+returns-5 c = sym (passed-6 (c .before .before .before) ∙ hit _ _ (room (c .before) ∙ c .if5 .taken))
 
-returns-8 : tie.Need-returns-8
-unfolding beginAnswer beginRows
-returns-8 c =
-    sym
-    (skip _ _ (c .before .before .before .before .before .before .before .before .before .before .before .before .before .if1 .left)
-    ∙ skip _ _ (or-none _ _ (sym (c .before .before .before .before .before .before .before .before .before .before .before .before .misfit-record .ensures) ∙ c .before .before .before .before .before .before .before .before .before .before .before .if2 .left) (sym (c .before .before .before .before .before .before .before .before .before .before .misfit-blob .ensures) ∙ c .before .before .before .before .before .before .before .before .before .if3 .left))
-    ∙ skip _ _ (lt-leb 64 (c .before .before .before .before .before .before .before .before .before .before .before .before .before .before .before .args .w .«node_depth») (c .before .before .before .before .before .before .before .if4 .left))
-    ∙ skip _ _ (sym (c .before .before .before .before .before .before .has-zero .ensures) ∙ c .before .before .before .before .before .if5 .left)
-    ∙ skip _ _ (ap not (sym (c .before .before .before .before .node-name-valid .ensures)) ∙ c .before .before .before .if6 .left)
-    ∙ skip _ _ (sym (c .before .no-room .ensures ∙ ap (noRoom (c .before .before .before .before .before .before .before .before .before .before .before .before .before .before .before .args .w)) (c .before .before .begin-size .ensures)) ∙ c .if7 .left)
-    ∙ done)
+returns-6 : tie.Need-returns-6
+unfolding beginRows blobRows aloneRows
+returns-6 c = sym (passed-6 (c .before .before .before) ∙ skip _ _ (room (c .before) ∙ c .if5 .left) ∙ done)
 
 pub begin-tests-spec : {M : Type 1} → statement M
 begin-tests-spec =
     tie.close
     (tie.spec
+    blob-tests-requires
+    accepted-requires
     returns
-    misfit-record-requires
     returns-2
-    misfit-blob-requires
-    returns-3
-    returns-4
     has-zero-requires
-    returns-5
+    returns-3
     node-name-valid-requires
-    returns-6
+    returns-4
     begin-size-requires
     no-room-requires
-    returns-7
-    returns-8)
+    returns-5
+    returns-6)

@@ -1,13 +1,29 @@
 -- `property_tests` meets its contract: refused by the first step, or answered by the second.
 use mathlib.Core.Path.{_≡_, sym, _∙_}
-use mathlib.Core.Bool.{true≢false}
+use mathlib.Core.Bool.{true, true≢false}
 use borrow.Author.Tests.{not-true, not-false}
-use Rattle.fdt_values.specs.Value.{valueOf}
-use Rattle.fdt_properties.proofs.Steps.{refused-first, state-fits, answered-second}
+use Rattle.fdt_values.specs.Value.{Value, valueOf}
+use Rattle.fdt_record.specs.Answers.{accepts}
+use Rattle.fdt_properties.proofs.Steps.{StateFits, refused-first, state-fits, answered-second}
 use borrow.Author.Needs.{needs}
 use native.Mathlib.Omega.{arith}
 use Rattle.fdt_properties.proofs.property_tests.Statement.{statement}
 use Rattle.fdt_properties.proofs.property_tests.Tie as tie
+
+-- the value, by its kind
+abbrev value : tie.Start → Value
+value s = let a = s .args in valueOf (a .kind) (a .bytes .now) (a .cells .now) (a .wide .now) (a .lengths .now)
+
+-- the first step was passed
+passed : (c : tie.Else1) → accepts (c .before .before .state-tests .result) ≡ true
+passed c = sym (c .before .accepted .ensures) ∙ not-false _ (c .if1 .left)
+
+-- what it tells
+fits : (c : tie.Else1) → let a = c .before .before .before .before .before .before .before .before .before .before .before .args in StateFits (a .w) (a .strings .now) (value (c .before .before .before .before .before .before .before .before .before .before .before))
+fits c =
+    let s = c .before .before .before .before .before .before .before .before .before .before .before in
+    let a = s .args in
+    state-fits (a .w) (a .lent) (a .strings .now) (value s) (c .before .before .before .before .misfit-value .ensures) (c .before .before .before .zero-value .ensures) (c .before .before .state-tests .ensures) (passed c)
 
 misfit-value-requires : tie.Need-misfit-value-requires
 misfit-value-requires c κs = search needs
@@ -23,9 +39,11 @@ accepted-requires c κs = search needs
 
 returns : tie.Need-returns
 returns c =
+    let s = c .before .before .before .before .before .before .before .before .before .before .before in
+    let a = s .args in
     let t = sym (c .before .accepted .ensures) ∙ not-true _ (c .if1 .taken) in
     record {
-      answered = refused-first (c .before .before .before .before .before .before .before .before .before .before .before .args .w) (c .before .before .before .before .before .before .before .before .before .before .before .args .lent) (c .before .before .before .before .before .before .before .before .before .before .before .args .strings .now) (c .before .before .before .before .before .before .before .before .before .before .before .args .name .now) (valueOf (c .before .before .before .before .before .before .before .before .before .before .before .args .kind) (c .before .before .before .before .before .before .before .before .before .before .before .args .bytes .now) (c .before .before .before .before .before .before .before .before .before .before .before .args .cells .now) (c .before .before .before .before .before .before .before .before .before .before .before .args .wide .now) (c .before .before .before .before .before .before .before .before .before .before .before .args .lengths .now)) (c .before .before .before .before .misfit-value .ensures) (c .before .before .before .zero-value .ensures) (c .before .before .state-tests .ensures) t;
+      answered = refused-first (a .w) (a .lent) (a .strings .now) (value s) (c .before .before .before .before .misfit-value .ensures) (c .before .before .before .zero-value .ensures) (c .before .before .state-tests .ensures) (a .name .now) t;
       placed = λ h. absurd (true≢false (sym h ∙ t));
       sized = λ h. absurd (true≢false (sym h ∙ t));
     }
@@ -34,20 +52,18 @@ value-length-requires : tie.Need-value-length-requires
 value-length-requires c κs = search needs
 
 name-tests-requires : tie.Need-name-tests-requires
-name-tests-requires c κs =
-    let t = sym (c .before .before .accepted .ensures) ∙ not-false _ (c .before .if1 .left) in
-    let f = state-fits (c .before .before .before .before .before .before .before .before .before .before .before .before .args .w) (c .before .before .before .before .before .before .before .before .before .before .before .before .args .lent) (c .before .before .before .before .before .before .before .before .before .before .before .before .args .strings .now) (c .before .before .before .before .before .before .before .before .before .before .before .before .args .name .now) (valueOf (c .before .before .before .before .before .before .before .before .before .before .before .before .args .kind) (c .before .before .before .before .before .before .before .before .before .before .before .before .args .bytes .now) (c .before .before .before .before .before .before .before .before .before .before .before .before .args .cells .now) (c .before .before .before .before .before .before .before .before .before .before .before .before .args .wide .now) (c .before .before .before .before .before .before .before .before .before .before .before .before .args .lengths .now)) (c .before .before .before .before .before .misfit-value .ensures) (c .before .before .before .before .zero-value .ensures) (c .before .before .before .state-tests .ensures) t in
-    (omega (arith, f .names .used, f .names .within), c .value-length .ensures .small)
+name-tests-requires c κs = let f = fits (c .before) .names in (omega (arith, f .used, f .within), c .value-length .ensures .small)
 
 returns-2 : tie.Need-returns-2
 returns-2 c =
-    let t = sym (c .before .before .before .accepted .ensures) ∙ not-false _ (c .before .before .if1 .left) in
-    let f = state-fits (c .before .before .before .before .before .before .before .before .before .before .before .before .before .args .w) (c .before .before .before .before .before .before .before .before .before .before .before .before .before .args .lent) (c .before .before .before .before .before .before .before .before .before .before .before .before .before .args .strings .now) (c .before .before .before .before .before .before .before .before .before .before .before .before .before .args .name .now) (valueOf (c .before .before .before .before .before .before .before .before .before .before .before .before .before .args .kind) (c .before .before .before .before .before .before .before .before .before .before .before .before .before .args .bytes .now) (c .before .before .before .before .before .before .before .before .before .before .before .before .before .args .cells .now) (c .before .before .before .before .before .before .before .before .before .before .before .before .before .args .wide .now) (c .before .before .before .before .before .before .before .before .before .before .before .before .before .args .lengths .now)) (c .before .before .before .before .before .before .misfit-value .ensures) (c .before .before .before .before .before .zero-value .ensures) (c .before .before .before .before .state-tests .ensures) t in
-    let s = c .before .value-length .ensures .length-is (f .value) in
+    let p = c .before .before in
+    let s = p .before .before .before .before .before .before .before .before .before .before .before in
+    let a = s .args in
+    let l = c .before .value-length .ensures .length-is (fits p .value) in
     record {
-      answered = answered-second (c .before .before .before .before .before .before .before .before .before .before .before .before .before .args .w) (c .before .before .before .before .before .before .before .before .before .before .before .before .before .args .lent) (c .before .before .before .before .before .before .before .before .before .before .before .before .before .args .strings .now) (c .before .before .before .before .before .before .before .before .before .before .before .before .before .args .name .now) (valueOf (c .before .before .before .before .before .before .before .before .before .before .before .before .before .args .kind) (c .before .before .before .before .before .before .before .before .before .before .before .before .before .args .bytes .now) (c .before .before .before .before .before .before .before .before .before .before .before .before .before .args .cells .now) (c .before .before .before .before .before .before .before .before .before .before .before .before .before .args .wide .now) (c .before .before .before .before .before .before .before .before .before .before .before .before .before .args .lengths .now)) (c .before .before .before .before .before .before .misfit-value .ensures) (c .before .before .before .before .before .zero-value .ensures) (c .before .before .before .before .state-tests .ensures) t s (c .name-tests .ensures .answered);
+      answered = answered-second (a .w) (a .lent) (a .strings .now) (value s) (p .before .before .before .before .misfit-value .ensures) (p .before .before .before .zero-value .ensures) (p .before .before .state-tests .ensures) (a .name .now) (passed p) l (c .name-tests .ensures .answered);
       placed = λ h. c .name-tests .ensures .placed;
-      sized = λ h. s;
+      sized = λ h. l;
     }
 
 pub property-tests-spec : {M : Type 1} → statement M

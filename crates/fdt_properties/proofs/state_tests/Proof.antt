@@ -1,106 +1,81 @@
 -- `state_tests` meets its contract: the rows of the tests that failed are passed over, and the one that held answers.
-use mathlib.Core.Path.{sym, _∙_}
-use borrow.Author.Tests.{eq-eqb, ne-eqb}
-use Rattle.fdt_record.specs.Misfits.{misfitRecord, misfitBlob, misfitStrings}
-use Rattle.fdt_record.proofs.Rows.{skip, hit, done}
-use Rattle.fdt_record.proofs.Tests.{or-first, or-second, or-none}
-use Rattle.fdt_properties.specs.Property.{stateRows}
+use mathlib.Core.Path.{_≡_, refl, sym, _∙_}
+use mathlib.Core.List.{[], _∷_, _++_}
+use Prim.Native.Nat.{ℕ}
 use borrow.Author.Needs.{needs}
+use borrow.Author.Tests.{eq-eqb, ne-eqb, not-true, not-false}
+use lib.ListN.{drop}
+use Rattle.fdt_record.specs.declared.Answer.the-variants.{Misfit}
+use Rattle.fdt_record.specs.Rows.{_⇒_, first}
+use Rattle.fdt_record.specs.Tests.{aloneRows, blobRows, stringsRows}
+use Rattle.fdt_record.proofs.FirstTests.{strings-refusals}
+use Rattle.fdt_record.proofs.Rows.{skip, hit, done, refusals-more, stands, goes-on, one-more}
+use Rattle.fdt_properties.specs.Property.{stateRows}
 use Rattle.fdt_properties.proofs.state_tests.Statement.{statement}
 use Rattle.fdt_properties.proofs.state_tests.Tie as tie
 
-returns : tie.Need-returns
-unfolding stateRows
-returns c = sym (hit _ _ (c .if1 .taken))
+-- the first tests, with the value's misfit
+told : (c : tie.After-or-misfit) → let a = c .before .before .before .args in c .or-misfit .result ≡ first (stringsRows (a .w) (a .lent) (a .strings .now) ++ (a .misfit ⇒ Misfit) ∷ [])
+told c = c .or-misfit .ensures ∙ one-more _ (strings-refusals _ _ _) (c .before .strings-tests .ensures) refl
 
-misfit-record-requires : tie.Need-misfit-record-requires
-misfit-record-requires c κs = search needs
+-- the first k tests failed
+abbrev Passed : ℕ → tie.Start → Type 0
+Passed k s =
+    let a = s .args in
+    let rows = stateRows (a .w) (a .lent) (a .strings .now) (a .misfit) (a .zero) in first rows ≡ first (drop k rows)
+
+passed-5 : (c : tie.Else1) → Passed 5 (c .before .before .before .before .before)
+unfolding stateRows stringsRows blobRows aloneRows
+passed-5 c =
+    goes-on _ (refusals-more _ (strings-refusals _ _ _) _) (told (c .before .before)) _ (sym (c .before .accepted .ensures) ∙ not-false _ (c .if1 .left))
+
+passed-6 : (c : tie.Else2) → Passed 6 (c .before .before .before .before .before .before)
+unfolding stateRows stringsRows blobRows aloneRows
+passed-6 c = passed-5 (c .before) ∙ skip _ _ (c .if2 .left)
+
+passed-7 : (c : tie.Else3) → Passed 7 (c .before .before .before .before .before .before .before)
+unfolding stateRows stringsRows blobRows aloneRows
+passed-7 c = passed-6 (c .before) ∙ skip _ _ (c .if3 .left)
+
+strings-tests-requires : tie.Need-strings-tests-requires
+strings-tests-requires c κs = search needs
+
+or-misfit-requires : tie.Need-or-misfit-requires
+or-misfit-requires c κs = search needs
+
+accepted-requires : tie.Need-accepted-requires
+accepted-requires c κs = search needs
+
+returns : tie.Need-returns
+unfolding stateRows stringsRows blobRows aloneRows
+returns c =
+    stands _ (refusals-more _ (strings-refusals _ _ _) _) (told (c .before .before)) _ (sym (c .before .accepted .ensures) ∙ not-true _ (c .if1 .taken))
 
 returns-2 : tie.Need-returns-2
-unfolding stateRows
-returns-2 c =
-    sym
-    (skip _ _ (c .before .before .if1 .left)
-    ∙ hit _ _ (or-first _ _ (sym (c .before .misfit-record .ensures) ∙ c .if2 .taken)))
-
-misfit-blob-requires : tie.Need-misfit-blob-requires
-misfit-blob-requires c κs = search needs
+unfolding stateRows stringsRows blobRows aloneRows
+returns-2 c = sym (passed-5 (c .before) ∙ hit _ _ (c .if2 .taken))
 
 returns-3 : tie.Need-returns-3
-unfolding stateRows
-returns-3 c =
-    sym
-    (skip _ _ (c .before .before .before .before .if1 .left)
-    ∙ hit _ _ (or-second (misfitRecord (c .before .before .before .before .before .before .args .w)) _ (or-first _ _ (sym (c .before .misfit-blob .ensures) ∙ c .if3 .taken))))
-
-misfit-strings-requires : tie.Need-misfit-strings-requires
-misfit-strings-requires c κs = search needs
+unfolding stateRows stringsRows blobRows aloneRows
+returns-3 c = sym (passed-6 (c .before) ∙ hit _ _ (c .if3 .taken))
 
 returns-4 : tie.Need-returns-4
-unfolding stateRows
-returns-4 c =
-    sym
-    (skip _ _ (c .before .before .before .before .before .before .if1 .left)
-    ∙ hit _ _ (or-second (misfitRecord (c .before .before .before .before .before .before .before .before .args .w)) _ (or-second (misfitBlob (c .before .before .before .before .before .before .before .before .args .w) (c .before .before .before .before .before .before .before .before .args .lent)) _ (or-first _ _ (sym (c .before .misfit-strings .ensures) ∙ c .if4 .taken)))))
+unfolding stateRows stringsRows blobRows aloneRows
+returns-4 c = sym (passed-7 (c .before .before) ∙ hit _ _ (eq-eqb _ 0 (c .if4 .taken)))
 
 returns-5 : tie.Need-returns-5
-unfolding stateRows
-returns-5 c =
-    sym
-    (skip _ _ (c .before .before .before .before .before .before .before .if1 .left)
-    ∙ hit _ _ (or-second (misfitRecord (c .before .before .before .before .before .before .before .before .before .args .w)) _ (or-second (misfitBlob (c .before .before .before .before .before .before .before .before .before .args .w) (c .before .before .before .before .before .before .before .before .before .args .lent)) _ (or-second (misfitStrings (c .before .before .before .before .before .before .before .before .before .args .w) (c .before .before .before .before .before .before .before .before .before .args .strings .now)) _ (c .if5 .taken)))))
-
-returns-6 : tie.Need-returns-6
-unfolding stateRows
-returns-6 c =
-    sym
-    (skip _ _ (c .before .before .before .before .before .before .before .before .if1 .left)
-    ∙ skip _ _ (or-none _ _ (sym (c .before .before .before .before .before .before .before .misfit-record .ensures) ∙ c .before .before .before .before .before .before .if2 .left) (or-none _ _ (sym (c .before .before .before .before .before .misfit-blob .ensures) ∙ c .before .before .before .before .if3 .left) (or-none _ _ (sym (c .before .before .before .misfit-strings .ensures) ∙ c .before .before .if4 .left) (c .before .if5 .left))))
-    ∙ hit _ _ (c .if6 .taken))
-
-returns-7 : tie.Need-returns-7
-unfolding stateRows
-returns-7 c =
-    sym
-    (skip _ _ (c .before .before .before .before .before .before .before .before .before .if1 .left)
-    ∙ skip _ _ (or-none _ _ (sym (c .before .before .before .before .before .before .before .before .misfit-record .ensures) ∙ c .before .before .before .before .before .before .before .if2 .left) (or-none _ _ (sym (c .before .before .before .before .before .before .misfit-blob .ensures) ∙ c .before .before .before .before .before .if3 .left) (or-none _ _ (sym (c .before .before .before .before .misfit-strings .ensures) ∙ c .before .before .before .if4 .left) (c .before .before .if5 .left))))
-    ∙ skip _ _ (c .before .if6 .left)
-    ∙ hit _ _ (c .if7 .taken))
-
-returns-8 : tie.Need-returns-8
-unfolding stateRows
-returns-8 c =
-    sym
-    (skip _ _ (c .before .before .before .before .before .before .before .before .before .before .before .if1 .left)
-    ∙ skip _ _ (or-none _ _ (sym (c .before .before .before .before .before .before .before .before .before .before .misfit-record .ensures) ∙ c .before .before .before .before .before .before .before .before .before .if2 .left) (or-none _ _ (sym (c .before .before .before .before .before .before .before .before .misfit-blob .ensures) ∙ c .before .before .before .before .before .before .before .if3 .left) (or-none _ _ (sym (c .before .before .before .before .before .before .misfit-strings .ensures) ∙ c .before .before .before .before .before .if4 .left) (c .before .before .before .before .if5 .left))))
-    ∙ skip _ _ (c .before .before .before .if6 .left)
-    ∙ skip _ _ (c .before .before .if7 .left)
-    ∙ hit _ _ (eq-eqb (c .before .before .before .before .before .before .before .before .before .before .before .before .before .args .w .«node_depth») 0 (c .if8 .taken)))
-
-returns-9 : tie.Need-returns-9
-unfolding stateRows
-returns-9 c =
-    sym
-    (skip _ _ (c .before .before .before .before .before .before .before .before .before .before .before .if1 .left)
-    ∙ skip _ _ (or-none _ _ (sym (c .before .before .before .before .before .before .before .before .before .before .misfit-record .ensures) ∙ c .before .before .before .before .before .before .before .before .before .if2 .left) (or-none _ _ (sym (c .before .before .before .before .before .before .before .before .misfit-blob .ensures) ∙ c .before .before .before .before .before .before .before .if3 .left) (or-none _ _ (sym (c .before .before .before .before .before .before .misfit-strings .ensures) ∙ c .before .before .before .before .before .if4 .left) (c .before .before .before .before .if5 .left))))
-    ∙ skip _ _ (c .before .before .before .if6 .left)
-    ∙ skip _ _ (c .before .before .if7 .left)
-    ∙ skip _ _ (ne-eqb (c .before .before .before .before .before .before .before .before .before .before .before .before .before .args .w .«node_depth») 0 (c .if8 .left))
-    ∙ done)
+unfolding stateRows stringsRows blobRows aloneRows
+returns-5 c = sym (passed-7 (c .before .before) ∙ skip _ _ (ne-eqb _ 0 (c .if4 .left)) ∙ done)
 
 pub state-tests-spec : {M : Type 1} → statement M
 state-tests-spec =
     tie.close
     (tie.spec
+    strings-tests-requires
+    or-misfit-requires
+    accepted-requires
     returns
-    misfit-record-requires
     returns-2
-    misfit-blob-requires
     returns-3
-    misfit-strings-requires
     returns-4
-    returns-5
-    returns-6
-    returns-7
-    returns-8
-    returns-9)
+    returns-5)

@@ -1,0 +1,26 @@
+-- `blob_tests` meets its contract: one more misfit after the tests of `alone_tests`.
+use mathlib.Core.Path.{_∙_}
+use Rattle.fdt_record.specs.Tests.{blobRows}
+use Rattle.fdt_record.proofs.FirstTests.{alone-refusals}
+use Rattle.fdt_record.proofs.Rows.{one-more}
+use borrow.Author.Needs.{needs}
+use Rattle.fdt_record.proofs.blob_tests.Statement.{statement}
+use Rattle.fdt_record.proofs.blob_tests.Tie as tie
+
+alone-tests-requires : tie.Need-alone-tests-requires
+alone-tests-requires c κs = search needs
+
+misfit-blob-requires : tie.Need-misfit-blob-requires
+misfit-blob-requires c κs = search needs
+
+or-misfit-requires : tie.Need-or-misfit-requires
+or-misfit-requires c κs = search needs
+
+returns : tie.Need-returns
+unfolding blobRows
+returns c =
+    c .or-misfit .ensures ∙ one-more _ (alone-refusals _) (c .before .before .alone-tests .ensures) (c .before .misfit-blob .ensures)
+
+pub blob-tests-spec : {M : Type 1} → statement M
+blob-tests-spec =
+    tie.close (tie.spec alone-tests-requires misfit-blob-requires or-misfit-requires returns)

@@ -1,0 +1,26 @@
+-- `strings_tests` meets its contract: one more misfit after the tests of `blob_tests`.
+use mathlib.Core.Path.{_∙_}
+use Rattle.fdt_record.specs.Tests.{stringsRows}
+use Rattle.fdt_record.proofs.FirstTests.{blob-refusals}
+use Rattle.fdt_record.proofs.Rows.{one-more}
+use borrow.Author.Needs.{needs}
+use Rattle.fdt_record.proofs.strings_tests.Statement.{statement}
+use Rattle.fdt_record.proofs.strings_tests.Tie as tie
+
+blob-tests-requires : tie.Need-blob-tests-requires
+blob-tests-requires c κs = search needs
+
+misfit-strings-requires : tie.Need-misfit-strings-requires
+misfit-strings-requires c κs = search needs
+
+or-misfit-requires : tie.Need-or-misfit-requires
+or-misfit-requires c κs = search needs
+
+returns : tie.Need-returns
+unfolding stringsRows
+returns c =
+    c .or-misfit .ensures ∙ one-more _ (blob-refusals _ _) (c .before .before .blob-tests .ensures) (c .before .misfit-strings .ensures)
+
+pub strings-tests-spec : {M : Type 1} → statement M
+strings-tests-spec =
+    tie.close (tie.spec blob-tests-requires misfit-strings-requires or-misfit-requires returns)
