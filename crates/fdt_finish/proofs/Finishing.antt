@@ -2,7 +2,6 @@
 use mathlib.Core.Path.{_≡_, refl, ap, _∙_}
 use mathlib.Core.Bool.{Bool, true, false}
 use mathlib.Core.List.{List, [], _∷_}
-use mathlib.Core.Logic.{_↔_}
 use Prim.Native.Nat.{ℕ, _+_, _-_, _≤_}
 use native.Mathlib.Omega.{arith}
 use borrow.Author.Tests.{eqb-true, not-false}
@@ -16,7 +15,6 @@ use Rattle.fdt_format.specs.Header.{structureStart, headerWords, headerBytes}
 use Rattle.fdt_format.specs.Tokens.{finalToken, finalBytes}
 use Rattle.fdt_format.proofs.HeaderBytes.{length-header}
 use Rattle.fdt_format.proofs.Tokens.{length-final}
-use Rattle.fdt_record.specs.declared.Answer.{Answer}
 use Rattle.fdt_record.specs.declared.Answer.the-variants.{Done}
 use Rattle.fdt_record.specs.declared.Record.{Record}
 use Rattle.fdt_record.specs.Answers.{accepts, upon}
@@ -24,7 +22,7 @@ use Rattle.fdt_record.specs.Limits.{blobCeiling}
 use Rattle.fdt_record.specs.Tests.{aloneRows, blobRows, stringsRows}
 use Rattle.fdt_record.proofs.Answers.{accepts-done, upon-done, upon-refused}
 use Rattle.fdt_record.proofs.Fits.{fit-blob, fit-strings, has-room}
-use Rattle.fdt_record.proofs.Rows.{NoneHolds, Refusals, Given, accepted-exactly, refused-exactly}
+use Rattle.fdt_record.proofs.Rows.{NoneHolds, Refusals, Exactly, exactly}
 use Rattle.fdt_finish.specs.Finish.{usedStrings, finishRows, finishAnswer, finishedBlob, finishBlob}
 
 -- word 9 and then the strings
@@ -38,13 +36,9 @@ module _ (w : Record) (lent : ℕ) (strings : List ℕ) where
   unfolding Refusals finishRows stringsRows blobRows aloneRows accepts
   finish-refusals = (refl, (refl, (refl, (refl, (refl, (refl, tt))))))
 
-  pub finish-accepted : (finishAnswer w lent strings ≡ Done) ↔ NoneHolds (finishRows w lent strings)
+  pub finish-exactly : Exactly (finishRows w lent strings) (finishAnswer w lent strings)
   unfolding finishAnswer
-  finish-accepted = accepted-exactly (finishRows w lent strings) finish-refusals
-
-  pub finish-refused : (a : Answer) → accepts a ≡ false → (finishAnswer w lent strings ≡ a) ↔ Given (finishRows w lent strings) a
-  unfolding finishAnswer
-  finish-refused a = refused-exactly (finishRows w lent strings) a
+  finish-exactly = exactly (finishRows w lent strings) finish-refusals
 
 -- what the tests of an accepted finish tell
 pub record Finishable (w : Record) (lent : ℕ) (strings : List ℕ) : Type 0 where
@@ -59,7 +53,7 @@ pub record Finishable (w : Record) (lent : ℕ) (strings : List ℕ) : Type 0 wh
 pub finish-fits : (w : Record) (lent : ℕ) (strings : List ℕ) → finishAnswer w lent strings ≡ Done → Finishable w lent strings
 unfolding finishRows stringsRows blobRows aloneRows NoneHolds
 finish-fits w lent strings e =
-    let n = finish-accepted w lent strings .0 e in
+    let n = finish-exactly w lent strings .accepted .0 e in
     let m = n .1 .1 in
     let b = fit-blob w lent (m .0) in
     let s = fit-strings w strings (m .1 .0) in

@@ -1,7 +1,6 @@
 -- Laws of a begin: its size, its three writes as one, what an accepted one passed, and exactly when each answer is given.
 use mathlib.Core.Path.{_≡_, refl, sym, ap, _∙_}
 use mathlib.Core.List.{List, [], _∷_, _++_}
-use mathlib.Core.Logic.{_↔_}
 use mathlib.Core.Bool.{true, false}
 use Prim.Native.Nat.{ℕ, _+_, _≤_, _<_}
 use native.Mathlib.Omega.{arith}
@@ -24,7 +23,7 @@ use Rattle.fdt_record.specs.Fields.{withUsedBlob, withDepth, withEnded}
 use Rattle.fdt_record.specs.Limits.{mostDepth, blobCeiling}
 use Rattle.fdt_record.specs.Tests.{aloneRows, blobRows}
 use Rattle.fdt_record.proofs.Fits.{FitBlob, fit-blob, has-room}
-use Rattle.fdt_record.proofs.Rows.{NoneHolds, Refusals, Given, accepted-exactly, refused-exactly}
+use Rattle.fdt_record.proofs.Rows.{NoneHolds, Refusals, Exactly, exactly}
 use Rattle.fdt_nodes.specs.declared.Begun.{Begun}
 use Rattle.fdt_nodes.specs.Begin.{beginRows, beginAnswer, begunRecord, begin}
 
@@ -51,15 +50,9 @@ unfolding beginRows blobRows aloneRows Refusals accepts
 refusals w lent name = (refl, (refl, (refl, (refl, (refl, (refl, (refl, tt)))))))
 
 module _ (w : Record) (lent : ℕ) (name : List ℕ) where
-  -- accepted exactly when no test holds
-  pub begin-accepted : (beginAnswer w lent name ≡ Done) ↔ NoneHolds (beginRows w lent name)
+  pub begin-exactly : Exactly (beginRows w lent name) (beginAnswer w lent name)
   unfolding beginAnswer
-  begin-accepted = accepted-exactly (beginRows w lent name) (refusals w lent name)
-
-  -- refused exactly when its row holds and no earlier one does
-  pub begin-refused : (a : Answer) → accepts a ≡ false → (beginAnswer w lent name ≡ a) ↔ Given (beginRows w lent name) a
-  unfolding beginAnswer
-  begin-refused a r = refused-exactly (beginRows w lent name) a r
+  begin-exactly = exactly (beginRows w lent name) (refusals w lent name)
 
   -- what an accepted begin passed
   pub record BeginFits : Type 0 where
@@ -70,7 +63,7 @@ module _ (w : Record) (lent : ℕ) (name : List ℕ) where
   pub begin-fits : beginAnswer w lent name ≡ Done → BeginFits
   unfolding beginRows blobRows aloneRows NoneHolds
   begin-fits e =
-      let n = begin-accepted .0 e in
+      let n = begin-exactly .accepted .0 e in
       record {
         blob = fit-blob w lent (n .1 .1 .0);
         depth = leb-false mostDepth (w .«node_depth») (n .1 .1 .1 .0);

@@ -2,7 +2,6 @@
 use mathlib.Core.Path.{_≡_, refl, sym, ap}
 use mathlib.Core.Bool.{true, false, not}
 use mathlib.Core.List.{List, [], _∷_}
-use mathlib.Core.Logic.{_↔_}
 use Prim.Native.Nat.{ℕ, _+_, _-_, _≤_, _<_}
 use native.Mathlib.Omega.{arith}
 use borrow.Author.Tests.{eqb-false}
@@ -10,14 +9,13 @@ use lib.Dec.{eqb}
 use lib.ListN.{length}
 use Rattle.fdt_format.specs.Tokens.{endBytes}
 use Rattle.fdt_format.proofs.Tokens.{length-end}
-use Rattle.fdt_record.specs.declared.Answer.{Answer}
 use Rattle.fdt_record.specs.declared.Answer.the-variants.{Done}
 use Rattle.fdt_record.specs.declared.Record.{Record}
 use Rattle.fdt_record.specs.Answers.{accepts}
 use Rattle.fdt_record.specs.Fields.{withUsedBlob, withDepth, withEnded}
 use Rattle.fdt_record.specs.Tests.{aloneRows, blobRows}
 use Rattle.fdt_record.proofs.Fits.{neither, FitBlob, fit-blob, has-room}
-use Rattle.fdt_record.proofs.Rows.{NoneHolds, Refusals, Given, accepted-exactly, refused-exactly}
+use Rattle.fdt_record.proofs.Rows.{NoneHolds, Refusals, Exactly, exactly}
 use Rattle.fdt_nodes.specs.End.{endRows, endAnswer, endedRecord}
 
 -- every answer of the rows is a refusal
@@ -26,15 +24,9 @@ unfolding endRows blobRows aloneRows Refusals accepts
 refusals w lent handle = (refl, (refl, (refl, (refl, (refl, tt)))))
 
 module _ (w : Record) (lent handle : ℕ) where
-  -- accepted exactly when no test holds
-  pub end-accepted : (endAnswer w lent handle ≡ Done) ↔ NoneHolds (endRows w lent handle)
+  pub end-exactly : Exactly (endRows w lent handle) (endAnswer w lent handle)
   unfolding endAnswer
-  end-accepted = accepted-exactly (endRows w lent handle) (refusals w lent handle)
-
-  -- refused exactly when its row holds and no earlier one does
-  pub end-refused : (a : Answer) → accepts a ≡ false → (endAnswer w lent handle ≡ a) ↔ Given (endRows w lent handle) a
-  unfolding endAnswer
-  end-refused a r = refused-exactly (endRows w lent handle) a r
+  end-exactly = exactly (endRows w lent handle) (refusals w lent handle)
 
   -- what an accepted end passed
   pub record EndFits : Type 0 where
@@ -45,7 +37,7 @@ module _ (w : Record) (lent handle : ℕ) where
   pub end-fits : endAnswer w lent handle ≡ Done → EndFits
   unfolding endRows blobRows aloneRows NoneHolds
   end-fits e =
-      let n = end-accepted .0 e in
+      let n = end-exactly .accepted .0 e in
       let z = eqb-false (w .«node_depth») 0 (neither (not (eqb handle (w .«node_depth»))) (eqb (w .«node_depth») 0) (n .1 .1 .1 .0) .1) in
       record {
         blob = fit-blob w lent (n .1 .1 .0);

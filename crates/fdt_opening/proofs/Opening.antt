@@ -2,7 +2,6 @@
 use mathlib.Core.Path.{_≡_, refl, sym, ap, _∙_}
 use mathlib.Core.Bool.{Bool, true, false, true≢false}
 use mathlib.Core.List.{List}
-use mathlib.Core.Logic.{_↔_}
 use Prim.Native.Nat.{ℕ, _+_, _*_, _%_, _≤_}
 use native.Mathlib.Nat.{zero-add}
 use native.Mathlib.Omega.{arith}
@@ -25,7 +24,7 @@ use Rattle.fdt_record.specs.Answers.{accepts}
 use Rattle.fdt_record.specs.Limits.{blobCeiling, mostReservations, usable}
 use Rattle.fdt_record.proofs.Answers.{upon-done, upon-refused, accepts-done}
 use Rattle.fdt_record.proofs.Fits.{usable-within}
-use Rattle.fdt_record.proofs.Rows.{NoneHolds, Refusals, Given, accepted-exactly, refused-exactly}
+use Rattle.fdt_record.proofs.Rows.{NoneHolds, Refusals, Exactly, exactly}
 use Rattle.fdt_opening.specs.Opening.{count, someInvalid, openingRows, openingAnswer, openedRecord, closedRecord, openingBytes, opening, openingBlob, OpeningOutcome}
 
 module _ (numbers : List ℕ) where
@@ -50,15 +49,9 @@ module _ (lent : ℕ) (numbers : List ℕ) where
   unfolding openingRows Refusals accepts
   opening-refusals = (refl, (refl, (refl, (refl, (refl, tt)))))
 
-  -- accepted exactly when every test fails
-  pub opening-accepted : (openingAnswer lent numbers ≡ Done) ↔ NoneHolds (openingRows lent numbers)
+  pub opening-exactly : Exactly (openingRows lent numbers) (openingAnswer lent numbers)
   unfolding openingAnswer
-  opening-accepted = accepted-exactly (openingRows lent numbers) opening-refusals
-
-  -- a refusal is the answer exactly when its test holds and no earlier one does
-  pub opening-refused : (a : Answer) → accepts a ≡ false → (openingAnswer lent numbers ≡ a) ↔ Given (openingRows lent numbers) a
-  unfolding openingAnswer
-  opening-refused = refused-exactly (openingRows lent numbers)
+  opening-exactly = exactly (openingRows lent numbers) opening-refusals
 
 -- what an accepted opening may rely on
 pub record OpeningFits (lent : ℕ) (numbers : List ℕ) : Type 0 where
@@ -72,7 +65,7 @@ pub record OpeningFits (lent : ℕ) (numbers : List ℕ) : Type 0 where
 pub opened-fits : (lent : ℕ) (numbers : List ℕ) → openingAnswer lent numbers ≡ Done → OpeningFits lent numbers
 unfolding openingRows NoneHolds
 opened-fits lent numbers e =
-    let n = opening-accepted lent numbers .0 e in
+    let n = opening-exactly lent numbers .accepted .0 e in
     let even : length numbers % 2 ≡ 0 = eqb-true (length numbers % 2) 0 (not-false _ (n .0)) in
     let room : structureStart (count numbers) ≤ usable blobCeiling lent = ltb-false (usable blobCeiling lent) (structureStart (count numbers)) (n .1 .1 .1 .1 .0) in
     record {

@@ -2,7 +2,7 @@
 use mathlib.Core.Path.{_≡_, refl, ap, _∙_}
 use mathlib.Core.Bool.{Bool, true, false, cond, _||_}
 use mathlib.Core.List.{List}
-use mathlib.Core.Logic.{_↔_, _≢_}
+use mathlib.Core.Logic.{_≢_}
 use Prim.Native.Nat.{ℕ, _+_, _≤_, _<_}
 use native.Mathlib.Numerals.{add-one}
 use native.Mathlib.Omega.{arith}
@@ -19,7 +19,7 @@ use Rattle.fdt_record.specs.Answers.{accepts, upon}
 use Rattle.fdt_record.specs.Tests.{aloneRows, blobRows, stringsRows}
 use Rattle.fdt_record.proofs.Answers.{upon-done, left-refused}
 use Rattle.fdt_record.proofs.Fits.{FitPhandles, fit-phandles}
-use Rattle.fdt_record.proofs.Rows.{NoneHolds, Refusals, Given, accepted-exactly, refused-exactly}
+use Rattle.fdt_record.proofs.Rows.{NoneHolds, Refusals, Exactly, exactly}
 use Rattle.fdt_phandles.specs.Phandle.{recordRows, recordAnswer, phandleTable}
 
 -- the entry that a search at i tests, and the entries after it
@@ -53,20 +53,14 @@ either f true x y z p q = p
 either f false x y z p q = q
 
 module _ (w : Record) (lent : ℕ) (strings table : List ℕ) (value : ℕ) where
-  -- accepted exactly when no test holds
-  pub record-accepted : (recordAnswer w lent strings table value ≡ Done) ↔ NoneHolds (recordRows w lent strings table value)
+  pub record-exactly : Exactly (recordRows w lent strings table value) (recordAnswer w lent strings table value)
   unfolding recordAnswer
-  record-accepted = accepted-exactly (recordRows w lent strings table value) (refusals w lent strings table value)
-
-  -- refused exactly when its row holds and no earlier one does
-  pub record-refused : (a : Answer) → accepts a ≡ false → (recordAnswer w lent strings table value ≡ a) ↔ Given (recordRows w lent strings table value) a
-  unfolding recordAnswer
-  record-refused a r = refused-exactly (recordRows w lent strings table value) a r
+  record-exactly = exactly (recordRows w lent strings table value) (refusals w lent strings table value)
 
   pub record-fits : recordAnswer w lent strings table value ≡ Done → RecordFits w (length table)
   unfolding recordRows stringsRows blobRows aloneRows NoneHolds
   record-fits e =
-      let n = record-accepted .0 e .1 .1 .1 .1 in
+      let n = record-exactly .accepted .0 e .1 .1 .1 .1 in
       record {
         phandles = fit-phandles w (length table) (n .0);
         room = leb-false (w .«phandles_room») (w .«phandles_used») (n .1 .1 .0);

@@ -28,7 +28,7 @@ use Rattle.fdt_record.specs.Tests.{aloneRows, blobRows, stringsRows}
 use Rattle.fdt_record.proofs.Answers.{accepts-done, upon-same}
 use Rattle.fdt_record.proofs.FirstTests.{strings-refusals}
 use Rattle.fdt_record.proofs.Fits.{fit-blob, FitStrings, fit-strings, fit-phandles}
-use Rattle.fdt_record.proofs.Rows.{NoneHolds, Refusals, accepted-exactly, refusals-more, append-same}
+use Rattle.fdt_record.proofs.Rows.{NoneHolds, Refusals, exactly, refusals-more, append-same}
 use Rattle.fdt_properties.specs.Property.{placeOf, offsetOf, stored, written, stateRows, nameRows, propertyRows, propertyAnswer, propertyRecord, property, propertyBlob, propertyStrings}
 use Rattle.fdt_properties.proofs.Property.{state-refusals, PropertyFits, property-fits}
 use Rattle.fdt_properties.proofs.Steps.{state-fits}
@@ -46,7 +46,7 @@ use Rattle.fdt_promises.specs.Effects.{SameUsable}
 use Rattle.fdt_phandles.specs.Phandle.{phandleName, phandleValue, recordRows, recordAnswer, recorded, phandle, phandleBlob, phandleStrings, phandleTable}
 use Rattle.fdt_phandles.proofs.Phandles.{record-fits}
 use Rattle.fdt_finish.specs.Finish.{usedStrings, finishRows, finishAnswer, finishedBlob, finish, finishBlob}
-use Rattle.fdt_finish.proofs.Finishing.{finish-accepted, finish-fits}
+use Rattle.fdt_finish.proofs.Finishing.{finish-exactly, finish-fits}
 use Rattle.fdt_promises.proofs.Usable.{same-length, same-front, same-splice, same-set, same-misfit-blob, same-misfit-strings, same-upon}
 
 -- A blob with the same usable part.
@@ -113,7 +113,7 @@ module _ (xs ys : List ℕ) (same : SameUsable blobCeiling xs ys) where
           (λ e.
           let done = accepts-done (finishAnswer w (length xs) ss) e in
           let f = finish-fits w (length xs) ss done in
-          let n = finish-accepted w (length xs) ss .0 done .1 .1 in
+          let n = finish-exactly w (length xs) ss .accepted .0 done .1 .1 in
           let fb = fit-blob w (length xs) (n .0) in
           let used = w .«blob_used» in
           let final = finalBytes (take (w .«strings_used») ss) in
@@ -215,7 +215,7 @@ module _ (xs ys : List ℕ) (same : SameUsable blobCeiling xs ys) where
       phandles-fit : accepts (first (first-tests (length xs) ss ps)) ≡ true → misfitPhandles w (length ps) ≡ false
       unfolding first-tests stringsRows blobRows aloneRows NoneHolds
       phandles-fit e =
-          let rows = first-tests (length xs) ss ps in accepted-exactly rows (refusals (length xs) ss ps) .0 (accepts-done (first rows) e) .1 .1 .1 .1 .0
+          let rows = first-tests (length xs) ss ps in exactly rows (refusals (length xs) ss ps) .accepted .0 (accepts-done (first rows) e) .1 .1 .1 .1 .0
 
       -- the tests of the table
       table-tests : List ℕ → List Row

@@ -2,7 +2,6 @@
 use mathlib.Core.Path.{_≡_, refl, sym, ap, _∙_}
 use mathlib.Core.Bool.{Bool, false}
 use mathlib.Core.List.{List, [], _∷_, _++_}
-use mathlib.Core.Logic.{_↔_}
 use Prim.Native.Nat.{ℕ, _+_, _≤_, _<_}
 use native.Mathlib.Omega.{arith}
 use lib.ListN.{length}
@@ -13,13 +12,12 @@ use Rattle.fdt_bytes.proofs.BigEndian.{length-cells}
 use Rattle.fdt_bytes.proofs.Splice.{splice-three}
 use Rattle.fdt_format.specs.Tokens.{propertyToken, propertyBytes}
 use Rattle.fdt_values.specs.Value.{Value, valueBytes, misfitValue}
-use Rattle.fdt_record.specs.declared.Answer.{Answer}
 use Rattle.fdt_record.specs.declared.Answer.the-variants.{Done}
 use Rattle.fdt_record.specs.declared.Record.{Record}
 use Rattle.fdt_record.specs.Answers.{accepts}
 use Rattle.fdt_record.specs.Tests.{aloneRows, blobRows, stringsRows}
 use Rattle.fdt_record.proofs.Fits.{FitRecord, fit-record, FitBlob, fit-blob, FitStrings, fit-strings, has-room}
-use Rattle.fdt_record.proofs.Rows.{NoneHolds, Refusals, Given, accepted-exactly, refused-exactly}
+use Rattle.fdt_record.proofs.Rows.{NoneHolds, Refusals, Exactly, exactly}
 use Rattle.fdt_properties.specs.Property.{placeOf, isFull, stateRows, nameRows, propertyRows, propertyAnswer}
 
 -- three words, the value and the padding, one after the other
@@ -43,15 +41,9 @@ unfolding propertyRows stateRows stringsRows blobRows aloneRows nameRows Refusal
 refusals w lent strings name v = (refl, (refl, (refl, (refl, (refl, (refl, (refl, (refl, (refl, (refl, (refl, (refl, tt))))))))))))
 
 module _ (w : Record) (lent : ℕ) (strings name : List ℕ) (v : Value) where
-  -- accepted exactly when no test holds
-  pub property-accepted : (propertyAnswer w lent strings name v ≡ Done) ↔ NoneHolds (propertyRows w lent strings name v)
+  pub property-exactly : Exactly (propertyRows w lent strings name v) (propertyAnswer w lent strings name v)
   unfolding propertyAnswer
-  property-accepted = accepted-exactly (propertyRows w lent strings name v) (refusals w lent strings name v)
-
-  -- refused exactly when its row holds and no earlier one does
-  pub property-refused : (a : Answer) → accepts a ≡ false → (propertyAnswer w lent strings name v ≡ a) ↔ Given (propertyRows w lent strings name v) a
-  unfolding propertyAnswer
-  property-refused a r = refused-exactly (propertyRows w lent strings name v) a r
+  property-exactly = exactly (propertyRows w lent strings name v) (refusals w lent strings name v)
 
   -- what an accepted property passed
   pub record PropertyFits : Type 0 where
@@ -65,7 +57,7 @@ module _ (w : Record) (lent : ℕ) (strings name : List ℕ) (v : Value) where
   pub property-fits : propertyAnswer w lent strings name v ≡ Done → PropertyFits
   unfolding propertyRows stateRows stringsRows blobRows aloneRows nameRows NoneHolds
   property-fits e =
-      let n = property-accepted .0 e .1 in
+      let n = property-exactly .accepted .0 e .1 in
       let m = n .1 .1 .1 in
       record {
         figures = fit-record w (n .0);

@@ -14,7 +14,7 @@ use Rattle.fdt_record.specs.Rows.{first}
 use Rattle.fdt_record.specs.Tests.{aloneRows, blobRows, stringsRows}
 use Rattle.fdt_record.proofs.Answers.{accepts-done}
 use Rattle.fdt_record.proofs.Fits.{FitStrings, fit-strings}
-use Rattle.fdt_record.proofs.Rows.{NoneHolds, Refusals, accepted-exactly, stands, goes-on}
+use Rattle.fdt_record.proofs.Rows.{NoneHolds, Refusals, exactly, stands, goes-on}
 use Rattle.fdt_properties.specs.Property.{stateRows, nameRows, propertyRows, propertyAnswer}
 use Rattle.fdt_properties.proofs.Property.{state-refusals}
 
@@ -36,7 +36,7 @@ module _ (w : Record) (lent : ℕ) (strings : List ℕ) (v : Value) {m z : Bool}
   pub state-fits : accepts a ≡ true → StateFits w strings v
   unfolding stateRows stringsRows blobRows aloneRows NoneHolds
   state-fits r =
-      let n = accepted-exactly (stateRows w lent strings (misfitValue v) (zeroValue v)) refusals .0 (sym state-told ∙ accepts-done a r) .1 .1 .1 in
+      let n = exactly (stateRows w lent strings (misfitValue v) (zeroValue v)) refusals .accepted .0 (sym state-told ∙ accepts-done a r) .1 .1 .1 in
       record { names = fit-strings w strings (n .0); value = n .1 .0 }
 
   -- refused by the first step

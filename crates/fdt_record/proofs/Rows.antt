@@ -42,7 +42,7 @@ pub record Given (rows : List Row) (a : Answer) : Type 0 where
   pub passed : NoneHolds before
 
 -- accepted exactly when every test fails
-pub accepted-exactly : (rows : List Row) → Refusals rows → (first rows ≡ Done) ↔ NoneHolds rows
+accepted-exactly : (rows : List Row) → Refusals rows → (first rows ≡ Done) ↔ NoneHolds rows
 unfolding first NoneHolds Refusals accepts
 accepted-exactly [] r = (λ e. tt, λ n. refl)
 accepted-exactly ((true ⇒ a) ∷ rows) r =
@@ -51,7 +51,7 @@ accepted-exactly ((false ⇒ a) ∷ rows) r =
     let ih = accepted-exactly rows (r .1) in (λ e. (refl, ih .0 e), λ n. ih .1 (n .1))
 
 -- a refusal is the answer exactly when its row holds and no earlier one does
-pub refused-exactly : (rows : List Row) (a : Answer) → accepts a ≡ false → (first rows ≡ a) ↔ Given rows a
+refused-exactly : (rows : List Row) (a : Answer) → accepts a ≡ false → (first rows ≡ a) ↔ Given rows a
 unfolding first NoneHolds accepts
 refused-exactly rows a r = (told rows, λ g. ap first (g .split) ∙ holds (g .before) (g .behind) (g .passed))
   where
@@ -69,6 +69,14 @@ refused-exactly rows a r = (told rows, λ g. ap first (g .split) ∙ holds (g .b
     told ((true ⇒ b) ∷ rows) e =
         record { before = []; behind = rows; split = ap (λ (c : Answer). (true ⇒ c) ∷ rows) e; passed = tt }
     told ((false ⇒ b) ∷ rows) e = later b rows (told rows e)
+
+-- exactly when each answer of a call with these rows is given: acceptance where no row holds, a refusal where the first that holds has it
+pub record Exactly (rows : List Row) (answer : Answer) : Type 0 where
+  pub accepted : (answer ≡ Done) ↔ NoneHolds rows
+  pub refused : (a : Answer) → accepts a ≡ false → (answer ≡ a) ↔ Given rows a
+
+pub exactly : (rows : List Row) → Refusals rows → Exactly rows (first rows)
+exactly rows r = record { accepted = accepted-exactly rows r; refused = refused-exactly rows }
 
 -- what holds of acceptance and of every answer of the rows holds of the answer
 unfoldable pub Every : (Answer → Type 0) → List Row → Type 0

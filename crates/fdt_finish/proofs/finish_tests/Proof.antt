@@ -11,7 +11,7 @@ use Rattle.fdt_record.specs.Tests.{aloneRows, blobRows, stringsRows}
 use Rattle.fdt_record.proofs.Answers.{accepts-done}
 use Rattle.fdt_record.proofs.FirstTests.{strings-refusals}
 use Rattle.fdt_record.proofs.Fits.{FitStrings, fit-strings}
-use Rattle.fdt_record.proofs.Rows.{NoneHolds, skip, hit, done, accepted-exactly, stands, goes-on}
+use Rattle.fdt_record.proofs.Rows.{NoneHolds, skip, hit, done, exactly, stands, goes-on}
 use Rattle.fdt_finish.specs.Finish.{finishRows, finishAnswer}
 use Rattle.fdt_finish.proofs.finish_tests.Statement.{statement}
 use Rattle.fdt_finish.proofs.finish_tests.Tie as tie
@@ -21,7 +21,7 @@ fits : (c : tie.Else1) → let a = c .before .before .before .before .args in Fi
 unfolding stringsRows blobRows aloneRows NoneHolds
 fits c =
     fit-strings _ _
-    (accepted-exactly _ (strings-refusals _ _ _) .0 (sym (c .before .before .strings-tests .ensures) ∙ accepts-done _ (sym (c .before .accepted .ensures) ∙ not-false _ (c .if1 .left))) .1 .1 .1 .0)
+    (exactly _ (strings-refusals _ _ _) .accepted .0 (sym (c .before .before .strings-tests .ensures) ∙ accepts-done _ (sym (c .before .accepted .ensures) ∙ not-false _ (c .if1 .left))) .1 .1 .1 .0)
 
 -- the first k tests failed
 abbrev Passed : ℕ → tie.Start → Type 0

@@ -13,7 +13,7 @@ use Rattle.fdt_record.specs.Tests.{aloneRows, blobRows, stringsRows}
 use Rattle.fdt_record.proofs.Answers.{accepts-done}
 use Rattle.fdt_record.proofs.FirstTests.{strings-refusals}
 use Rattle.fdt_record.proofs.Fits.{FitPhandles, fit-phandles}
-use Rattle.fdt_record.proofs.Rows.{NoneHolds, skip, hit, done, refusals-more, accepted-exactly, stands, goes-on, one-more}
+use Rattle.fdt_record.proofs.Rows.{NoneHolds, skip, hit, done, refusals-more, exactly, stands, goes-on, one-more}
 use Rattle.fdt_phandles.specs.Phandle.{recordRows, recordAnswer}
 use Rattle.fdt_phandles.proofs.record_tests.Statement.{statement}
 use Rattle.fdt_phandles.proofs.record_tests.Tie as tie
@@ -30,7 +30,7 @@ fits : (c : tie.Else1) → let a = c .before .before .before .before .before .be
 unfolding stringsRows blobRows aloneRows NoneHolds
 fits c =
     fit-phandles _ _
-    (accepted-exactly _ (refusals-more _ (strings-refusals _ _ _) _) .0 (sym (told (c .before .before)) ∙ accepts-done _ (sym (c .before .accepted .ensures) ∙ not-false _ (c .if1 .left))) .1 .1 .1 .1 .0)
+    (exactly _ (refusals-more _ (strings-refusals _ _ _) _) .accepted .0 (sym (told (c .before .before)) ∙ accepts-done _ (sym (c .before .accepted .ensures) ∙ not-false _ (c .if1 .left))) .1 .1 .1 .1 .0)
 
 -- the first k tests failed
 abbrev Passed : ℕ → tie.Start → Type 0
