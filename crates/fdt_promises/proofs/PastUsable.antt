@@ -22,7 +22,7 @@ use Rattle.fdt_record.specs.declared.Outcome.{Outcome}
 use Rattle.fdt_record.specs.declared.Record.{Record}
 use Rattle.fdt_record.specs.Answers.{accepts, upon}
 use Rattle.fdt_record.specs.Limits.{blobCeiling, stringsCeiling, phandlesCeiling, usable}
-use Rattle.fdt_record.specs.Misfits.{misfitPhandles}
+use Rattle.fdt_record.specs.Misfits.{misfitRoom, misfitPhandles}
 use Rattle.fdt_record.specs.Rows.{Row, _⇒_, first}
 use Rattle.fdt_record.specs.Tests.{aloneRows, blobRows, stringsRows}
 use Rattle.fdt_record.proofs.Answers.{accepts-done, upon-same}
@@ -192,7 +192,7 @@ module _ (xs ys : List ℕ) (same : SameUsable blobCeiling xs ys) where
     -- Phandles with the same usable part.
     module _ (ps qs : List ℕ) (akin : SameUsable phandlesCeiling ps qs) (w : Record) (value : ℕ) where
       same-phandles : misfitPhandles w (length ps) ≡ misfitPhandles w (length qs)
-      unfolding misfitPhandles
+      unfolding misfitPhandles misfitRoom
       same-phandles = simp (same-length phandlesCeiling ps qs akin)
 
       same-known : misfitPhandles w (length ps) ≡ false → oneOf (take (w .«phandles_used») ps) value ≡ oneOf (take (w .«phandles_used») qs) value

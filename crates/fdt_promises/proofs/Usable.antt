@@ -16,7 +16,7 @@ use Rattle.fdt_record.specs.declared.Answer.{Answer}
 use Rattle.fdt_record.specs.declared.Record.{Record}
 use Rattle.fdt_record.specs.Answers.{accepts, upon}
 use Rattle.fdt_record.specs.Limits.{blobCeiling, stringsCeiling, usable}
-use Rattle.fdt_record.specs.Misfits.{misfitBlob, misfitStrings}
+use Rattle.fdt_record.specs.Misfits.{misfitRoom, misfitBlob, misfitStrings}
 use Rattle.fdt_promises.specs.Effects.{SameUsable}
 
 -- the usable part's length
@@ -84,13 +84,13 @@ same-set ceiling i v xs ys e h =
 
 -- a blob is judged by its usable length alone
 pub same-misfit-blob : (w : Record) (xs ys : List ℕ) → SameUsable blobCeiling xs ys → misfitBlob w (length xs) ≡ misfitBlob w (length ys)
-unfolding misfitBlob
+unfolding misfitBlob misfitRoom
 same-misfit-blob w xs ys e =
-    ap (λ (n : ℕ). not (eqb n (w .«blob_room»)) || (ltb (w .«blob_room») (w .«blob_used») || (not (eqb (w .«blob_used» % 4) 0) || ltb (w .«blob_used») (structureStart (w .reservations))))) (same-length blobCeiling xs ys e)
+    ap (λ (n : ℕ). (not (eqb n (w .«blob_room»)) || ltb (w .«blob_room») (w .«blob_used»)) || (not (eqb (w .«blob_used» % 4) 0) || ltb (w .«blob_used») (structureStart (w .reservations)))) (same-length blobCeiling xs ys e)
 
 -- strings are judged by their usable part alone
 pub same-misfit-strings : (w : Record) (xs ys : List ℕ) → SameUsable stringsCeiling xs ys → misfitStrings w xs ≡ misfitStrings w ys
-unfolding misfitStrings SameUsable
+unfolding misfitStrings misfitRoom SameUsable
 same-misfit-strings w xs ys e = go (decLt u used) (decLt 0 used)
   where
     u : ℕ
@@ -103,7 +103,7 @@ same-misfit-strings w xs ys e = go (decLt u used) (decLt 0 used)
     same = same-length stringsCeiling xs ys e
 
     judged : ℕ → ℕ → Bool
-    judged n last = not (eqb n (w .«strings_room»)) || (ltb (w .«strings_room») used || (not (eqb used 0) && not (eqb last 0)))
+    judged n last = (not (eqb n (w .«strings_room»)) || ltb (w .«strings_room») used) || (not (eqb used 0) && not (eqb last 0))
 
     above : (n last : ℕ) → n < used → judged n last ≡ true
     above n last h = by (eqb n (w .«strings_room»)) refl

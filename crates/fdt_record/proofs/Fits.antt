@@ -11,7 +11,7 @@ use lib.ListN.{length, getD}
 use Rattle.fdt_format.specs.Header.{structureStart}
 use Rattle.fdt_record.specs.declared.Record.{Record}
 use Rattle.fdt_record.specs.Limits.{blobCeiling, stringsCeiling, phandlesCeiling, mostReservations, mostDepth, usable}
-use Rattle.fdt_record.specs.Misfits.{misfitRecord, misfitBlob, misfitStrings, misfitPhandles, noRoom}
+use Rattle.fdt_record.specs.Misfits.{misfitRecord, misfitRoom, misfitBlob, misfitStrings, misfitPhandles, noRoom}
 
 -- neither of two tests
 pub neither : (a b : Bool) → (a || b) ≡ false → (a ≡ false) × (b ≡ false)
@@ -36,6 +36,26 @@ fit-record w e =
       reservations = ltb-false mostReservations (w .reservations) (n .1);
     }
 
+-- of any buffer
+pub record FitRoom (ceiling lent opened count : ℕ) : Type 0 where
+  pub room : usable ceiling lent ≡ opened
+  pub within : opened ≤ lent
+  pub small : opened ≤ ceiling
+  pub used : count ≤ opened
+
+pub fit-room : (ceiling lent opened count : ℕ) → misfitRoom ceiling lent opened count ≡ false → FitRoom ceiling lent opened count
+unfolding misfitRoom
+fit-room ceiling lent opened count e =
+    let n = neither (not (eqb (usable ceiling lent) opened)) (ltb opened count) e in
+    let r = eqb-true (usable ceiling lent) opened (not-false _ (n .0)) in
+    let u = usable-within ceiling lent in
+    record {
+      room = r;
+      within = omega (arith, r, u .0);
+      small = omega (arith, r, u .1);
+      used = ltb-false opened count (n .1);
+    }
+
 pub record FitBlob (w : Record) (lent : ℕ) : Type 0 where
   pub room : usable blobCeiling lent ≡ w .«blob_room»
   pub within : w .«blob_room» ≤ lent
@@ -47,18 +67,16 @@ pub record FitBlob (w : Record) (lent : ℕ) : Type 0 where
 pub fit-blob : (w : Record) (lent : ℕ) → misfitBlob w lent ≡ false → FitBlob w lent
 unfolding misfitBlob
 fit-blob w lent e =
-    let n₁ = neither (not (eqb (usable blobCeiling lent) (w .«blob_room»))) _ e in
-    let n₂ = neither (ltb (w .«blob_room») (w .«blob_used»)) _ (n₁ .1) in
-    let n₃ = neither (not (eqb (w .«blob_used» % 4) 0)) _ (n₂ .1) in
-    let r = eqb-true (usable blobCeiling lent) (w .«blob_room») (not-false _ (n₁ .0)) in
-    let u = usable-within blobCeiling lent in
+    let n = neither (misfitRoom blobCeiling lent (w .«blob_room») (w .«blob_used»)) _ e in
+    let m = neither (not (eqb (w .«blob_used» % 4) 0)) _ (n .1) in
+    let r = fit-room blobCeiling lent (w .«blob_room») (w .«blob_used») (n .0) in
     record {
-      room = r;
-      within = omega (arith, r, u .0);
-      small = omega (arith, r, u .1);
-      used = ltb-false (w .«blob_room») (w .«blob_used») (n₂ .0);
-      aligned = eqb-true (w .«blob_used» % 4) 0 (not-false _ (n₃ .0));
-      started = ltb-false (w .«blob_used») (structureStart (w .reservations)) (n₃ .1);
+      room = r .room;
+      within = r .within;
+      small = r .small;
+      used = r .used;
+      aligned = eqb-true (w .«blob_used» % 4) 0 (not-false _ (m .0));
+      started = ltb-false (w .«blob_used») (structureStart (w .reservations)) (m .1);
     }
 
 pub record FitStrings (w : Record) (strings : List ℕ) : Type 0 where
@@ -71,16 +89,14 @@ pub record FitStrings (w : Record) (strings : List ℕ) : Type 0 where
 pub fit-strings : (w : Record) (strings : List ℕ) → misfitStrings w strings ≡ false → FitStrings w strings
 unfolding misfitStrings
 fit-strings w strings e =
-    let n₁ = neither (not (eqb (usable stringsCeiling (length strings)) (w .«strings_room»))) _ e in
-    let n₂ = neither (ltb (w .«strings_room») (w .«strings_used»)) _ (n₁ .1) in
-    let r = eqb-true (usable stringsCeiling (length strings)) (w .«strings_room») (not-false _ (n₁ .0)) in
-    let u = usable-within stringsCeiling (length strings) in
+    let n = neither (misfitRoom stringsCeiling (length strings) (w .«strings_room») (w .«strings_used»)) _ e in
+    let r = fit-room stringsCeiling (length strings) (w .«strings_room») (w .«strings_used») (n .0) in
     record {
-      room = r;
-      within = omega (arith, r, u .0);
-      small = omega (arith, r, u .1);
-      used = ltb-false (w .«strings_room») (w .«strings_used») (n₂ .0);
-      ended = go (eqb (w .«strings_used») 0) (eqb (getD strings (w .«strings_used» - 1) 0) 0) refl refl (n₂ .1);
+      room = r .room;
+      within = r .within;
+      small = r .small;
+      used = r .used;
+      ended = go (eqb (w .«strings_used») 0) (eqb (getD strings (w .«strings_used» - 1) 0) 0) refl refl (n .1);
     }
   where
     go : (a b : Bool) → eqb (w .«strings_used») 0 ≡ a → eqb (getD strings (w .«strings_used» - 1) 0) 0 ≡ b → (not a && not b) ≡ false → (w .«strings_used» ≡ 0) ⊎ (getD strings (w .«strings_used» - 1) 0 ≡ 0)
@@ -88,24 +104,12 @@ fit-strings w strings e =
     go false true p q h = inr (eqb-true (getD strings (w .«strings_used» - 1) 0) 0 q)
     go false false p q h = absurd (true≢false h)
 
-pub record FitPhandles (w : Record) (lent : ℕ) : Type 0 where
-  pub room : usable phandlesCeiling lent ≡ w .«phandles_room»
-  pub within : w .«phandles_room» ≤ lent
-  pub small : w .«phandles_room» ≤ phandlesCeiling
-  pub used : w .«phandles_used» ≤ w .«phandles_room»
+abbrev pub FitPhandles : Record → ℕ → Type 0
+FitPhandles w lent = FitRoom phandlesCeiling lent (w .«phandles_room») (w .«phandles_used»)
 
 pub fit-phandles : (w : Record) (lent : ℕ) → misfitPhandles w lent ≡ false → FitPhandles w lent
 unfolding misfitPhandles
-fit-phandles w lent e =
-    let n = neither (not (eqb (usable phandlesCeiling lent) (w .«phandles_room»))) _ e in
-    let r = eqb-true (usable phandlesCeiling lent) (w .«phandles_room») (not-false _ (n .0)) in
-    let u = usable-within phandlesCeiling lent in
-    record {
-      room = r;
-      within = omega (arith, r, u .0);
-      small = omega (arith, r, u .1);
-      used = ltb-false (w .«phandles_room») (w .«phandles_used») (n .1);
-    }
+fit-phandles w lent = fit-room phandlesCeiling lent (w .«phandles_room») (w .«phandles_used»)
 
 -- room for so many bytes more
 pub has-room : (w : Record) (bytes : ℕ) → noRoom w bytes ≡ false → w .«blob_used» + bytes ≤ w .«blob_room»

@@ -12,25 +12,26 @@ use Rattle.fdt_record.specs.Limits.{blobCeiling, stringsCeiling, phandle
 unfoldable pub misfitRecord : Record → Bool
 misfitRecord w = ltb mostDepth (w .«node_depth») || ltb mostReservations (w .reservations)
 
--- usable length differs from that at opening; used blob is above usable, not a multiple of 4, or below 56 + 16 × reservations
+-- of any buffer: usable length differs from that at opening, or used is above it
+unfoldable pub misfitRoom : (ceiling lent room used : ℕ) → Bool
+misfitRoom ceiling lent room used = not (eqb (usable ceiling lent) room) || ltb room used
+
+-- of the blob: or used is not a multiple of 4, or below 56 + 16 × reservations
 unfoldable pub misfitBlob : Record → ℕ → Bool
 misfitBlob w lent =
-    not (eqb (usable blobCeiling lent) (w .«blob_room»))
-    || (ltb (w .«blob_room») (w .«blob_used»)
+    misfitRoom blobCeiling lent (w .«blob_room») (w .«blob_used»)
     || (not (eqb (w .«blob_used» % 4) 0)
-    || ltb (w .«blob_used») (structureStart (w .reservations))))
+    || ltb (w .«blob_used») (structureStart (w .reservations)))
 
--- usable length differs from that at opening; used strings above usable, or non-zero with a last used byte other than 0
+-- of the strings: or used is non-zero with a last used byte other than 0
 unfoldable pub misfitStrings : Record → List ℕ → Bool
 misfitStrings w strings =
-    not (eqb (usable stringsCeiling (length strings)) (w .«strings_room»))
-    || (ltb (w .«strings_room») (w .«strings_used»)
-    || (not (eqb (w .«strings_used») 0) && not (eqb (getD strings (w .«strings_used» - 1) 0) 0)))
+    misfitRoom stringsCeiling (length strings) (w .«strings_room») (w .«strings_used»)
+    || (not (eqb (w .«strings_used») 0) && not (eqb (getD strings (w .«strings_used» - 1) 0) 0))
 
--- usable length differs from that at opening; phandle count above usable
+-- of the phandles: no other cause
 unfoldable pub misfitPhandles : Record → ℕ → Bool
-misfitPhandles w lent =
-    not (eqb (usable phandlesCeiling lent) (w .«phandles_room»)) || ltb (w .«phandles_room») (w .«phandles_used»)
+misfitPhandles w lent = misfitRoom phandlesCeiling lent (w .«phandles_room») (w .«phandles_used»)
 
 -- used + bytes of this call exceeds usable length
 unfoldable pub noRoom : Record → ℕ → Bool

@@ -5,7 +5,7 @@ ghost use lib.ListN.{length};
 ghost use Rattle.fdt_record.specs.declared.Answer.the-variants.{Done, Misfit};
 ghost use Rattle.fdt_record.specs.Answers.{numberOf, accepts, upon};
 ghost use Rattle.fdt_record.specs.Limits.{usable};
-ghost use Rattle.fdt_record.specs.Misfits.{misfitRecord, misfitBlob, misfitStrings, misfitPhandles, noRoom};
+ghost use Rattle.fdt_record.specs.Misfits.{misfitRecord, misfitRoom, misfitBlob, misfitStrings, misfitPhandles, noRoom};
 ghost use Rattle.fdt_record.specs.Rows.{first};
 ghost use Rattle.fdt_record.specs.Tests.{aloneRows, blobRows, stringsRows};
 
@@ -122,14 +122,21 @@ pub fn misfit_record(w: Record) -> bool
     FDT_MAX_NODE_DEPTH < w.node_depth || MAX_RESERVATIONS < w.reservations
 }
 
+// Whether the usable length is another than at opening, or more than it is used.
+fn misfit_room(ceiling: usize, lent: usize, room: usize, used: usize) -> bool
+    ensures { λ r. ⌜ r ≡ misfitRoom ceiling lent room used ⌝ }
+{
+    if usable_length(ceiling, lent) != room {
+        return true;
+    }
+    room < used
+}
+
 // Whether the record does not fit a blob of so many bytes.
 pub fn misfit_blob(w: Record, lent: usize) -> bool
     ensures { λ r. ⌜ r ≡ misfitBlob w lent ⌝ }
 {
-    if usable_length(BLOB_CEILING, lent) != w.blob_room {
-        return true;
-    }
-    if w.blob_room < w.blob_used {
+    if misfit_room(BLOB_CEILING, lent, w.blob_room, w.blob_used) {
         return true;
     }
     if w.blob_used % 4 != 0 {
@@ -146,10 +153,7 @@ pub fn misfit_strings(w: Record, strings: &[u8]) -> bool
     ensures { λ r. ⌜ r ≡ misfitStrings w (now (strings .entry)) ⌝ }
 {
     let used = w.strings_used;
-    if usable_length(STRINGS_CEILING, strings.len()) != w.strings_room {
-        return true;
-    }
-    if w.strings_room < used {
+    if misfit_room(STRINGS_CEILING, strings.len(), w.strings_room, used) {
         return true;
     }
     if used == 0 {
@@ -163,10 +167,7 @@ pub fn misfit_strings(w: Record, strings: &[u8]) -> bool
 pub fn misfit_phandles(w: Record, lent: usize) -> bool
     ensures { λ r. ⌜ r ≡ misfitPhandles w lent ⌝ }
 {
-    if usable_length(PHANDLES_CEILING, lent) != w.phandles_room {
-        return true;
-    }
-    w.phandles_room < w.phandles_used
+    misfit_room(PHANDLES_CEILING, lent, w.phandles_room, w.phandles_used)
 }
 
 // The first tests of a call that is lent nothing: 18, and 17 for the record.
