@@ -1,6 +1,6 @@
 -- Laws of a begin: its size, its three writes as one, what an accepted one passed, and exactly when each answer is given.
 use mathlib.Core.Path.{_≡_, refl, sym, ap, _∙_}
-use mathlib.Core.List.{List, [], _∷_, _++_}
+use mathlib.Core.List.{List, _++_}
 use mathlib.Core.Bool.{true, false}
 use Prim.Native.Nat.{ℕ, _+_, _≤_, _<_}
 use native.Mathlib.Omega.{arith}
@@ -20,7 +20,7 @@ use Rattle.fdt_record.specs.declared.Answer.the-variants.{Done}
 use Rattle.fdt_record.specs.declared.Record.{Record}
 use Rattle.fdt_record.specs.Answers.{accepts, upon}
 use Rattle.fdt_record.specs.Fields.{withUsedBlob, withDepth, withEnded}
-use Rattle.fdt_record.specs.Limits.{mostDepth, blobCeiling}
+use Rattle.fdt_record.specs.Limits.{mostDepth}
 use Rattle.fdt_record.specs.Tests.{aloneRows, blobRows}
 use Rattle.fdt_record.proofs.Fits.{FitBlob, fit-blob, has-room}
 use Rattle.fdt_record.proofs.Rows.{NoneHolds, Refusals, Exactly, exactly}

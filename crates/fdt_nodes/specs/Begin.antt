@@ -1,6 +1,6 @@
 -- What `begin_node` answers and leaves (document 01: begin tests 18, 17, 12, 5, 10, 14).
 use mathlib.Core.Path.{_≡_}
-use mathlib.Core.Bool.{true, false, not}
+use mathlib.Core.Bool.{false, not}
 use mathlib.Core.List.{List, [], _∷_, _++_}
 use Prim.Native.Nat.{ℕ, _+_}
 use lib.Dec.{leb}

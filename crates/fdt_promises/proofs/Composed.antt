@@ -1,11 +1,11 @@
 -- Calls that are made of a property: a phandle once its value is recorded, and what the kinds write.
-use mathlib.Core.Path.{_≡_, refl, sym, ap, _∙_}
+use mathlib.Core.Path.{_≡_, refl, _∙_}
 use mathlib.Core.List.{List, [], _∷_}
 use Prim.Native.Nat.{ℕ}
 use lib.ListN.{length}
 use Rattle.fdt_bytes.specs.BigEndian.{cellBytes}
 use Rattle.fdt_strings.specs.Entries.{entry}
-use Rattle.fdt_values.specs.Value.{Value, raw, cells, texts, textBytes, valueBytes}
+use Rattle.fdt_values.specs.Value.{raw, cells, texts, valueBytes}
 use Rattle.fdt_values.proofs.Values.{texts-one}
 use Rattle.fdt_record.specs.declared.Answer.the-variants.{Done}
 use Rattle.fdt_record.specs.declared.Outcome.{Outcome}

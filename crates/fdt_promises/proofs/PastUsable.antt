@@ -1,8 +1,8 @@
 -- Nothing past the usable length is read: calls on buffers with the same usable parts give the same and leave the same usable parts.
-use mathlib.Core.Path.{_≡_, refl, sym, ap, subst, _∙_}
+use mathlib.Core.Path.{_≡_, refl, ap, subst, _∙_}
 use mathlib.Core.Bool.{true, false}
 use mathlib.Core.List.{List, [], _∷_, _++_}
-use Prim.Native.Nat.{ℕ, _+_, _≤_}
+use Prim.Native.Nat.{ℕ, _+_}
 use native.Mathlib.Omega.{arith}
 use lib.Dec.{leb}
 use lib.ListN.{length, take}
@@ -18,7 +18,6 @@ use Rattle.fdt_values.specs.Value.{Value, valueBytes, misfitValue, zeroValue}
 use Rattle.fdt_names.specs.Names.{oneOf}
 use Rattle.fdt_record.specs.declared.Answer.{Answer}
 use Rattle.fdt_record.specs.declared.Answer.the-variants.{Misfit, DuplicatePhandle, PhandleRoom}
-use Rattle.fdt_record.specs.declared.Outcome.{Outcome}
 use Rattle.fdt_record.specs.declared.Record.{Record}
 use Rattle.fdt_record.specs.Answers.{accepts, upon}
 use Rattle.fdt_record.specs.Limits.{blobCeiling, stringsCeiling, phandlesCeiling, usable}

@@ -1,9 +1,9 @@
 -- The starred cases of document 01, "Cases at the edges": one table over the definitions of the calls' outcomes.
 use mathlib.Core.Bool.{Bool, true, _&&_}
-use mathlib.Core.List.{List, [], _∷_, _++_}
+use mathlib.Core.List.{List, [], _∷_}
 use Prim.Native.Nat.{ℕ, _-_, _^_}
 use lib.Dec.{eqb}
-use lib.ListN.{length, take, drop, replicate}
+use lib.ListN.{take, drop, replicate}
 use Rattle.fdt_bytes.specs.BigEndian.{cellBytes}
 use Rattle.fdt_strings.specs.Entries.{same}
 use Rattle.fdt_values.specs.Value.{raw}

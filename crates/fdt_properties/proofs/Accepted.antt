@@ -4,8 +4,7 @@ use mathlib.Core.Bool.{true}
 use mathlib.Core.List.{List}
 use Prim.Native.Nat.{ℕ, _+_, _≤_, _<_, _^_}
 use native.Mathlib.Omega.{arith}
-use lib.ListN.{length}
-use Rattle.fdt_bytes.specs.Padding.{roundUp, padding}
+use Rattle.fdt_bytes.specs.Padding.{roundUp}
 use Rattle.fdt_strings.specs.declared.Interned.{Interned}
 use Rattle.fdt_format.specs.Tokens.{propertyBytes}
 use Rattle.fdt_format.proofs.Tokens.{length-property}
@@ -18,7 +17,7 @@ use Rattle.fdt_record.proofs.Answers.{accepts-done}
 use Rattle.fdt_properties.specs.Property.{placeOf, offsetOf, added, written, propertyRecord}
 use Rattle.fdt_properties.specs.Tested.{PropertyTested, PlaceFits, PutFits}
 use Rattle.fdt_properties.proofs.Places.{Settled, settled}
-use Rattle.fdt_properties.proofs.Property.{PropertyFits, property-fits}
+use Rattle.fdt_properties.proofs.Property.{property-fits}
 
 module _ (w : Record) (lent : ℕ) (strings name : List ℕ) (v : Value) (place : Interned) (len : ℕ) where
   pub record AcceptedProperty : Type 0 where

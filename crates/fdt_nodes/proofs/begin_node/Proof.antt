@@ -1,5 +1,5 @@
 -- `begin_node` meets its contract: where its tests are passed the bytes fit, and else nothing is altered.
-use mathlib.Core.Path.{_≡_, sym, _∙_}
+use mathlib.Core.Path.{sym, _∙_}
 use borrow.Author.Tests.{not-true, not-false}
 use lib.ListN.{length}
 use Rattle.fdt_record.proofs.Answers.{accepts-done, left-accepted, left-refused}

@@ -1,9 +1,9 @@
 -- `begin_size` meets its contract: word 1, and the name with its 0 rounded up.
-use mathlib.Core.Path.{_≡_, sym, ap, _∙_}
+use mathlib.Core.Path.{sym, ap, _∙_}
 use Prim.Native.Nat.{ℕ, _+_}
 use lib.Dec.{lit<}
 use lib.ListN.{length}
-use Rattle.fdt_bytes.specs.Padding.{padding, roundUp}
+use Rattle.fdt_bytes.specs.Padding.{roundUp}
 use Rattle.fdt_bytes.proofs.Padding.{padding-small}
 use Rattle.fdt_format.proofs.Tokens.{length-begin}
 use borrow.Author.Needs.{needs}

@@ -1,5 +1,5 @@
 -- `end_node` meets its contract: where its tests are passed the word fits, and else nothing is altered.
-use mathlib.Core.Path.{_≡_, sym, ap, _∙_}
+use mathlib.Core.Path.{sym, ap, _∙_}
 use borrow.Author.Tests.{not-true, not-false}
 use lib.ListN.{length}
 use Rattle.fdt_record.specs.declared.Record.{Record}

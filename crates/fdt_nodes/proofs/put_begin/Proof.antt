@@ -1,6 +1,4 @@
 -- `put_begin` meets its contract: three writes, each where the one before ended.
-use Prim.Native.Nat.{_+_}
-use lib.ListN.{length}
 use Rattle.fdt_strings.proofs.Entries.{length-entry}
 use Rattle.fdt_nodes.proofs.Begin.{begin-parts, put-begin}
 use borrow.Author.Needs.{needs}

@@ -1,7 +1,7 @@
 -- `after_property` meets its contract: the sums fit, and the padding is that of the value.
 use mathlib.Core.Path.{ap}
 use Prim.Native.Nat.{ℕ, _+_}
-use Rattle.fdt_bytes.specs.Padding.{padding, roundUp}
+use Rattle.fdt_bytes.specs.Padding.{roundUp}
 use Rattle.fdt_record.specs.Fields.{withUsedBlob, withUsedStrings}
 use borrow.Author.Needs.{needs}
 use native.Mathlib.Omega.{arith}

@@ -1,7 +1,5 @@
 -- `store_name` meets its contract: a new name is stored where it fits, and a known one is left alone.
 use mathlib.Core.Path.{sym, ap, subst, _∙_}
-use mathlib.Core.List.{List}
-use Prim.Native.Nat.{ℕ}
 use Rattle.fdt_strings.specs.declared.Interned.{Interned}
 use Rattle.fdt_properties.specs.Property.{stored}
 use Rattle.fdt_properties.specs.Tested.{PlaceFits}

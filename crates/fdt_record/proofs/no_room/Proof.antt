@@ -1,5 +1,4 @@
 -- `no_room` meets its contract, with no sum that could wrap.
-use mathlib.Core.Path.{sym, _∙_}
 use Prim.Native.Nat.{_+_, _-_}
 use borrow.Author.Tests.{lt-ltb}
 use Rattle.fdt_bytes.proofs.Tests.{same-test}
