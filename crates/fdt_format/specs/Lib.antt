@@ -1,2 +1,8 @@
+pub mod Blob
+pub mod Description
+pub mod Events
 pub mod Header
+pub mod Reading
+pub mod Step
 pub mod Tokens
+pub mod Walk

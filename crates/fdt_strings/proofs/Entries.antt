@@ -9,7 +9,7 @@ use lib.ListN.{length, take, drop, length-append, length-drop, drop-of-length-le
 use lib.Seq.{append-snoc, drop-at, drop-drop, take-length, length-take-le}
 use lib.Dec.{eqb}
 use Rattle.bytes.specs.Bytes.{slice, indexOf, indexAfter}
-use Rattle.fdt_strings.specs.Entries.{entry, inFront, entries, same, firstFrom, findString}
+use Rattle.fdt_strings.specs.Entries.{entry, inFront, entries, same, firstFrom, findString, joined, NoZero, no-byte, next-byte}
 use Rattle.fdt_strings.specs.declared.Found.{Found}
 use Rattle.fdt_strings.specs.declared.Found.the-variants.{At, Nothing}
 
@@ -46,11 +46,6 @@ ne-same s t h = go (same s t) refl
     go false e = refl
 
 -- ---- strings fall into entries
-
--- no byte is 0
-pub data NoZero : List ℕ → Type 0 where
-  no-byte : NoZero []
-  next-byte : {b : ℕ} {s : List ℕ} → 0 < b → NoZero s → NoZero (b ∷ s)
 
 -- no entry has a byte 0
 pub data Plain : List (List ℕ) → Type 0 where
@@ -100,11 +95,6 @@ entries-plain (b ∷ s) = go (eqb b 0) refl (entries s) (entries-plain s)
     go false e (x ∷ es) (next-entry n p) = let h : 0 < b = omega (arith, eqb-false b 0 e) in next-entry (next-byte h n) p
 
 -- ---- entries are put together again
-
--- each with its 0
-unfoldable pub joined : List (List ℕ) → List ℕ
-joined [] = []
-joined (e ∷ es) = entry e ++ joined es
 
 pub joined-append : (es fs : List (List ℕ)) → joined (es ++ fs) ≡ joined es ++ joined fs
 unfolding joined

@@ -1,5 +1,5 @@
 -- The strings area as entries, each ended by a 0: "A name is found only as a whole entry, and the first such entry counts" (document 01, "The bytes").
-use Prim.Native.Nat.{ℕ, _+_}
+use Prim.Native.Nat.{ℕ, _+_, _<_}
 use mathlib.Core.Bool.{Bool, true, false, cond, _&&_}
 use mathlib.Core.List.{List, [], _∷_, _++_}
 use lib.ListN.{length}
@@ -11,6 +11,11 @@ use Rattle.fdt_strings.specs.declared.Found.the-variants.{At, Nothing}
 unfoldable pub entry : List ℕ → List ℕ
 entry name = name ++ (0 ∷ [])
 
+-- no byte is 0
+pub data NoZero : List ℕ → Type 0 where
+  no-byte : NoZero []
+  next-byte : {b : ℕ} {s : List ℕ} → 0 < b → NoZero s → NoZero (b ∷ s)
+
 -- a byte in front of the first entry; where no 0 follows there is no entry for it
 unfoldable pub inFront : ℕ → List (List ℕ) → List (List ℕ)
 inFront b [] = []
@@ -20,6 +25,11 @@ inFront b (e ∷ es) = (b ∷ e) ∷ es
 unfoldable pub entries : List ℕ → List (List ℕ)
 entries [] = []
 entries (b ∷ s) = cond (eqb b 0) ([] ∷ entries s) (inFront b (entries s))
+
+-- entries put together, each with its 0
+unfoldable pub joined : List (List ℕ) → List ℕ
+joined [] = []
+joined (e ∷ es) = entry e ++ joined es
 
 -- the same bytes
 unfoldable pub same : List ℕ → List ℕ → Bool

@@ -1,0 +1,92 @@
+-- The bytes of a description (document 01, "The bytes"): header, reservations, structure, strings.
+use mathlib.Core.Path.{_≡_}
+use mathlib.Core.List.{List, [], _∷_, _++_}
+use Prim.Native.Nat.{ℕ, _+_, _<_, _^_}
+use lib.ListN.{length}
+use Rattle.fdt_strings.specs.declared.Found.{Found}
+use Rattle.fdt_strings.specs.declared.Found.the-variants.{At, Nothing}
+use Rattle.fdt_strings.specs.Entries.{firstFrom, joined, NoZero}
+use Rattle.fdt_format.specs.Description.{Property, _≔_, Reservation, reserved, Description}
+use Rattle.fdt_format.specs.Events.{Event, begins, has, ends, events}
+use Rattle.fdt_format.specs.Header.{structureStart, reservationBytes, headerBytes}
+use Rattle.fdt_format.specs.Tokens.{beginBytes, propertyBytes, endBytes, finalBytes}
+
+-- names as they are where one was found among them, otherwise with it at the end
+unfoldable pub orAtEnd : Found → List (List ℕ) → List ℕ → List (List ℕ)
+orAtEnd (At offset) names name = names
+orAtEnd Nothing names name = names ++ (name ∷ [])
+
+-- names with one more, each once
+unfoldable pub withName : List (List ℕ) → List ℕ → List (List ℕ)
+withName names name = orAtEnd (firstFrom 0 names name) names name
+
+-- names, and then those of properties in events: each once, in order of first use
+unfoldable pub namesFrom : List (List ℕ) → List Event → List (List ℕ)
+namesFrom names [] = names
+namesFrom names (begins name ∷ es) = namesFrom names es
+namesFrom names (has (name ≔ value) ∷ es) = namesFrom (withName names name) es
+namesFrom names (ends ∷ es) = namesFrom names es
+
+-- the names of properties in events
+unfoldable pub namesOf : List Event → List (List ℕ)
+namesOf es = namesFrom [] es
+
+-- where a name stands; 0 where it does not
+unfoldable pub placeOf : Found → ℕ
+placeOf (At offset) = offset
+placeOf Nothing = 0
+
+-- the offset of a name in the strings of names
+unfoldable pub offsetOf : List (List ℕ) → List ℕ → ℕ
+offsetOf names name = placeOf (firstFrom 0 names name)
+
+-- the bytes of an event, with the names of the strings
+unfoldable pub eventBytes : List (List ℕ) → Event → List ℕ
+eventBytes names (begins name) = beginBytes name
+eventBytes names (has (name ≔ value)) = propertyBytes (offsetOf names name) value
+eventBytes names ends = endBytes
+
+-- the bytes of events, one after the other
+unfoldable pub structureBytes : List (List ℕ) → List Event → List ℕ
+structureBytes names [] = []
+structureBytes names (e ∷ es) = eventBytes names e ++ structureBytes names es
+
+-- reservations as numbers: address and size in turn
+unfoldable pub numbersOf : List Reservation → List ℕ
+numbersOf [] = []
+numbersOf (reserved address size ∷ rs) = address ∷ size ∷ numbersOf rs
+
+-- the blob of reservations, a boot number and events
+unfoldable pub blobFrom : List Reservation → ℕ → List Event → List ℕ
+blobFrom rs boot es =
+    let structure : List ℕ = structureBytes (namesOf es) es in
+    let strings : List ℕ = joined (namesOf es) in
+    headerBytes (length rs) (structureStart (length rs) + length structure + 4) (length strings) boot
+    ++ (reservationBytes (numbersOf rs) ++ (structure ++ finalBytes strings))
+
+-- the blob of a description
+unfoldable pub blobOf : Description → List ℕ
+blobOf d = blobFrom (d .reservations) (d .boot) (events (d .nodes) [])
+
+-- the name of an event has no byte 0
+unfoldable pub Plain : Event → Type 0
+Plain (begins name) = NoZero name
+Plain (has (name ≔ value)) = NoZero name
+Plain ends = Unit {0}
+
+-- the name of every event
+unfoldable pub AllPlain : List Event → Type 0
+AllPlain [] = Unit {0}
+AllPlain (e ∷ es) = Plain e × AllPlain es
+
+-- reservations of 64-bit numbers, none of them both 0
+unfoldable pub AllTold : List Reservation → Type 0
+AllTold [] = Unit {0}
+AllTold (reserved address size ∷ rs) = (address < 2 ^ 64) × (size < 2 ^ 64) × (0 < address + size) × AllTold rs
+
+-- what the format can hold: such names and reservations, a boot number and a size of 32 bits
+pub record WellFormed (d : Description) : Type 0 where
+  pub names : AllPlain (events (d .nodes) [])
+  pub told : AllTold (d .reservations)
+  pub boot : d .boot < 2 ^ 32
+  pub size : length (blobOf d) < 2 ^ 32

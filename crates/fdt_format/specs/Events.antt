@@ -1,0 +1,53 @@
+-- Nodes as the events that a structure tells one after the other, and back.
+use mathlib.Core.List.{List, [], _∷_}
+use mathlib.Core.Option.{Option, none, some}
+use Prim.Native.Nat.{ℕ}
+use Rattle.fdt_format.specs.Description.{Property, Nodes, no-more, node}
+
+-- a node begins, the open node has a property, or the open node ends
+pub data Event : Type 0 where
+  begins : List ℕ → Event
+  has : Property → Event
+  ends : Event
+
+-- the events of properties, and then others
+unfoldable pub propertyEvents : List Property → List Event → List Event
+propertyEvents [] others = others
+propertyEvents (p ∷ ps) others = has p ∷ propertyEvents ps others
+
+-- the events of nodes, and then others: a node's properties come before its children
+unfoldable pub events : Nodes → List Event → List Event
+events no-more others = others
+events (node name properties children later) others =
+    begins name ∷ propertyEvents properties (events children (ends ∷ events later others))
+
+-- what the last events of a structure tell: the properties and then the nodes of the node that is open before them,
+-- and for each node around it the nodes after it; or that they are out of place
+pub data Told : Type 0 where
+  misplaced : Told
+  told : List Property → Nodes → List Nodes → Told
+
+-- one event in front of them
+unfoldable pub inFront : Event → Told → Told
+inFront e misplaced = misplaced
+inFront (has p) (told ps nodes around) = told (p ∷ ps) nodes around
+inFront ends (told [] nodes around) = told [] no-more (nodes ∷ around)
+inFront ends (told (p ∷ ps) nodes around) = misplaced
+inFront (begins name) (told ps nodes []) = misplaced
+inFront (begins name) (told ps nodes (later ∷ around)) = told [] (node name ps nodes later) around
+
+-- what events tell
+unfoldable pub tell : List Event → Told
+tell [] = told [] no-more []
+tell (e ∷ es) = inFront e (tell es)
+
+-- the nodes, where every node has ended and no property stands outside
+unfoldable pub whole : Told → Option Nodes
+whole misplaced = none
+whole (told [] nodes []) = some nodes
+whole (told [] nodes (later ∷ around)) = none
+whole (told (p ∷ ps) nodes around) = none
+
+-- the nodes that events tell: those whose events they are (`nodes-exactly`)
+unfoldable pub nodesOf : List Event → Option Nodes
+nodesOf es = whole (tell es)

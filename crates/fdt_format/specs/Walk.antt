@@ -1,0 +1,39 @@
+-- Reading the structure token by token, to the final word or the first that is refused.
+use mathlib.Core.Bool.{false}
+use mathlib.Core.List.{List, [], _∷_}
+use Prim.Native.Nat.{ℕ, zero, suc, _-_}
+use Rattle.fdt_format.specs.declared.Areas.{Areas}
+use Rattle.fdt_format.specs.declared.Entry.{Entry}
+use Rattle.fdt_format.specs.declared.State.{State}
+use Rattle.fdt_format.specs.declared.Step.{Step}
+use Rattle.fdt_format.specs.declared.Step.the-variants as step
+use Rattle.fdt_format.specs.Step.{disorder, stepAt}
+
+-- refused with a number, or the entries in order
+pub data Walk : Type 0 where
+  bad : ℕ → Walk
+  good : List Entry → Walk
+
+-- an entry in front
+abbrev pub more : Entry → Walk → Walk
+more t (bad n) = bad n
+more t (good ts) = good (t ∷ ts)
+
+-- a token, and the walk on from it
+abbrev pub follow : Step → (State → Walk) → Walk
+follow (step.Entry t s) on = more t (on s)
+follow step.Final on = good []
+follow (step.Bad n) on = bad n
+
+-- at most k tokens
+unfoldable pub steps : List ℕ → Areas → ℕ → State → Walk
+steps b a zero s = bad disorder
+steps b a (suc k) s = follow (stepAt b a s) (steps b a k)
+
+-- all tokens: each takes a byte at least, so that this bound refuses nothing (`walk-step`)
+unfoldable pub walk : List ℕ → Areas → State → Walk
+walk b a s = steps b a (suc (a .«structure_end» - s .at)) s
+
+-- where a walk begins: no node is open, and no property may stand here
+unfoldable pub start : Areas → State
+start a = record { at = a .structure; depth = 0; room = false }
