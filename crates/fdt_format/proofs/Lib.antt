@@ -1,2 +1,3 @@
 pub mod HeaderBytes
 pub mod Tokens
+pub mod Walks
