@@ -1,3 +1,4 @@
 pub mod HeaderBytes
+pub mod Nodes
 pub mod Tokens
 pub mod Walks
