@@ -1,4 +1,5 @@
 pub mod HeaderBytes
+pub mod Nested
 pub mod Nodes
 pub mod Tokens
 pub mod Walks

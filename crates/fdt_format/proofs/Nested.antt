@@ -1,0 +1,222 @@
+-- A walk that is accepted tells nodes: the depth and the room of its states are what puts events in order. So a reading
+-- refuses only what header, reservations or walk refuse.
+use mathlib.Core.Path.{_≡_, refl, sym, ap, subst, _∙_}
+use mathlib.Core.Bool.{Bool, true, false, not, false≢true}
+use mathlib.Core.List.{List, [], _∷_, map}
+use mathlib.Core.Logic.{_↔_}
+use mathlib.Core.Option.{Option, none, some, Option·none-ne-some, Option·some-injective}
+use Prim.Native.Nat.{ℕ, zero, suc, _+_, _<_}
+use native.Mathlib.Omega.{arith}
+use borrow.Author.Tests.{eqb-true, eqb-false}
+use lib.ListN.{take, drop}
+use Rattle.fdt_format.specs.declared.Areas.{Areas}
+use Rattle.fdt_format.specs.declared.Entry.{Entry}
+use Rattle.fdt_format.specs.declared.State.{State}
+use Rattle.fdt_format.specs.declared.Step.{Step}
+use Rattle.fdt_format.specs.declared.Step.the-variants as step
+use Rattle.fdt_format.specs.Description.{Property, _≔_, Nodes, Reservation, Description}
+use Rattle.fdt_format.specs.Events.{Event, begins, has, ends, events, nodesOf}
+use Rattle.fdt_format.specs.Reading.{areasOf, goodHeader, nameAt, eventAt, walkNodes, described, readReservations, readNodes, reading}
+use Rattle.fdt_format.specs.Step.{pick, beginAt, propertyAt, endAt, finalAt, stepAt}
+use Rattle.fdt_format.specs.Tokens.{beginToken, endToken, propertyToken}
+use Rattle.fdt_format.specs.Walk.{Walk, bad, good, more, follow, steps, walk, start}
+use Rattle.fdt_format.proofs.Nodes.{Accepted, described-by, nodes-exactly}
+use Rattle.fdt_format.proofs.Walks.{skip, hit, by-test}
+
+-- ---- what an entry tells, by its token
+
+module _ (b : List ℕ) (t : Entry) where
+  pub event-begins : t .token ≡ beginToken → eventAt b t ≡ begins (nameAt b (t .name))
+  unfolding eventAt
+  event-begins e = hit _ _ (rw e)
+
+  pub event-ends : t .token ≡ endToken → eventAt b t ≡ ends
+  unfolding eventAt
+  event-ends e = skip _ _ (rw e) ∙ hit _ _ (rw e)
+
+  pub event-has : t .token ≡ propertyToken → eventAt b t ≡ has (nameAt b (t .name) ≔ take (t .size) (drop (t .place + 12) b))
+  unfolding eventAt
+  event-has e = skip _ _ (rw e) ∙ skip _ _ (rw e)
+
+-- ---- how a token moves depth and room
+
+-- an entry begins a node, is a property where there is room, or ends a node
+data Kind (b : List ℕ) (s : State) (t : Entry) (s' : State) : Type 0 where
+  opens : (name : List ℕ) → eventAt b t ≡ begins name → s' .depth ≡ suc (s .depth) → s' .room ≡ true → Kind b s t s'
+  adds : (p : Property) → eventAt b t ≡ has p → s' .depth ≡ s .depth → s .room ≡ true → s' .room ≡ true → Kind b s t s'
+  closes : eventAt b t ≡ ends → suc (s' .depth) ≡ s .depth → s' .room ≡ false → Kind b s t s'
+
+-- of what stands at a state: the final word stands where no node is open
+unfoldable Kinds : List ℕ → State → Step → Type 0
+Kinds b s (step.Entry t s') = Kind b s t s'
+Kinds b s step.Final = s .depth ≡ 0
+Kinds b s (step.Bad n) = Unit {0}
+
+module _ (b : List ℕ) (a : Areas) (s : State) where
+  begin-kinds : Kinds b s (beginAt b a s)
+  unfolding beginAt Kinds
+  begin-kinds =
+      by-test (Kinds b s) _ _ _ (λ _. tt)
+      λ _. by-test (Kinds b s) _ _ _ (λ _. tt)
+      λ _. opens _ (event-begins b _ refl) (omega arith) refl
+
+  property-kinds : s .room ≡ true → Kinds b s (propertyAt b a s)
+  unfolding propertyAt Kinds
+  property-kinds r =
+      by-test (Kinds b s) _ _ _ (λ _. tt)
+      λ _. by-test (Kinds b s) _ _ _ (λ _. tt)
+      λ _. by-test (Kinds b s) _ _ _ (λ _. tt)
+      λ _. adds _ (event-has b _ refl) refl r refl
+
+  end-kinds : Kinds b s (endAt s)
+  unfolding endAt Kinds
+  end-kinds =
+      by-test (Kinds b s) _ _ _ (λ _. tt)
+      λ h. let n : s .depth ≡ 0 → ⊥ = eqb-false _ _ h in closes (event-ends b _ refl) (omega (arith, n)) refl
+
+  final-kinds : Kinds b s (finalAt a s)
+  unfolding finalAt Kinds
+  final-kinds = by-test (Kinds b s) _ _ _ (λ h. by-test (Kinds b s) _ _ _ (λ _. eqb-true _ _ h) (λ _. tt)) (λ _. tt)
+
+  step-kinds : Kinds b s (stepAt b a s)
+  unfolding stepAt Kinds
+  step-kinds =
+      by-test (Kinds b s) _ _ _ (λ _. tt)
+      λ _. by-test (Kinds b s) _ _ _ (λ _. begin-kinds)
+      λ _. by-test (Kinds b s) _ _ _ (λ _. end-kinds)
+      λ _. by-test (Kinds b s) _ _ _ (λ _. by-test (Kinds b s) _ _ _ (λ r. property-kinds r) (λ _. tt))
+      λ _. by-test (Kinds b s) _ _ _ (λ _. final-kinds) (λ _. tt)
+
+-- ---- one token more in front
+
+-- there is room for a property only in a node
+unfoldable Open : State → Type 0
+Open s = s .room ≡ true → 0 < s .depth
+
+-- the events from a state on are in order
+unfoldable Ordered : State → List Event → Type 0
+Ordered s es = Accepted (s .depth) (not (s .room)) es
+
+open-on : {b : List ℕ} {s s' : State} {t : Entry} → Kind b s t s' → Open s → Open s'
+unfolding Open
+open-on (opens name e d r) o = λ _. omega (arith, d)
+open-on (adds p e d r r') o = λ _. omega (arith, d, o r)
+open-on (closes e d r) o = λ q. absurd (false≢true (sym r ∙ q))
+
+-- where no node is open it does not matter whether one was ended
+outside-any : (es : List Event) (x y : Bool) → Accepted 0 x es → Accepted 0 y es
+unfolding Accepted
+outside-any [] x y h = h
+outside-any (begins name ∷ es) x y h = h
+outside-any (has p ∷ es) x y h = h
+outside-any (ends ∷ es) x y h = h
+
+has-front : (depth : ℕ) (p : Property) (es : List Event) → 0 < depth → Accepted depth false es → Accepted depth false (has p ∷ es)
+unfolding Accepted
+has-front zero p es h k = absurd (omega arith)
+has-front (suc depth) p es h k = k
+
+front : {b : List ℕ} {s s' : State} {t : Entry} (es : List Event) → Kind b s t s' → Open s → Ordered s' es → Ordered s (eventAt b t ∷ es)
+unfolding Open Ordered Accepted
+front es (opens name e d r) o h = rw e (rw (d, r) at h)
+front es (adds p e d r r') o h = rw (e, r) (has-front _ p es (o r) (rw (d, r') at h))
+front es (closes e d r) o h = rw (e, ← d) (rw r at h)
+
+-- ---- the walk
+
+bad-not-good : {n : ℕ} {ts : List Entry} → bad n ≡ good ts → ⊥
+bad-not-good q = let z : _≡_ {A = ℕ} 0 1 = cc in omega arith
+
+-- a good walk with an entry in front: the walk on from it was good
+record Split (t : Entry) (on : Walk) (ts : List Entry) : Type 0 where
+  rest : List Entry
+  is : on ≡ good rest
+  all : t ∷ rest ≡ ts
+
+split : (t : Entry) (on : Walk) (ts : List Entry) → more t on ≡ good ts → Split t on ts
+split t (bad n) ts q = absurd (bad-not-good q)
+split t (good rest) ts q = record { rest = rest; is = refl; all = cc }
+
+module _ (b : List ℕ) where
+  -- by what stands at a state, if the walk on from it tells events in order
+  here : (on : State → Walk) (s : State) → Open s → ((s' : State) → Open s' → (ts : List Entry) → on s' ≡ good ts → Ordered s' (map (eventAt b) ts))
+      → (x : Step) → Kinds b s x → (ts : List Entry) → follow x on ≡ good ts → Ordered s (map (eventAt b) ts)
+  unfolding Kinds Ordered Accepted
+  here on s o ih (step.Entry t s') k ts q =
+      let p : Split t (on s') ts = split t (on s') ts q in
+      let h : Ordered s' (map (eventAt b) (p .rest)) = ih s' (open-on k o) (p .rest) (p .is) in
+      subst (λ (l : List Entry). Ordered s (map (eventAt b) l)) (p .all) (front (map (eventAt b) (p .rest)) k o h)
+  here on s o ih step.Final k ts q = let n : [] ≡ ts = cc in rw (← n) k
+  here on s o ih (step.Bad n) k ts q = absurd (bad-not-good q)
+
+  module _ (a : Areas) where
+    ordered : (k : ℕ) (s : State) → Open s → (ts : List Entry) → steps b a k s ≡ good ts → Ordered s (map (eventAt b) ts)
+    unfolding steps
+    ordered zero s o ts q = absurd (bad-not-good q)
+    ordered (suc k) s o ts q = here (steps b a k) s o (ordered k) (stepAt b a s) (step-kinds b a s) ts q
+
+    -- a walk that is accepted tells nodes
+    pub nested : (ts : List Entry) → walk b a (start a) ≡ good ts → (f : Nodes) × (nodesOf (map (eventAt b) ts) ≡ some f)
+    unfolding walk start Open Ordered
+    nested ts q =
+        let o : Accepted 0 true (map (eventAt b) ts) = ordered _ (start a) (λ z. absurd (false≢true z)) ts q in
+        let d = described-by (map (eventAt b) ts) (outside-any (map (eventAt b) ts) true false o) in
+        (d .0, d .1)
+
+-- ---- the reading
+
+-- what is read of a blob: a good header, its reservations and boot number, and nodes whose events are those of a good walk
+pub record Parts (b : List ℕ) (d : Description) : Type 0 where
+  pub header : goodHeader b ≡ true
+  pub reservations : readReservations b (areasOf b) ≡ some (d .reservations)
+  pub boot : areasOf b .boot ≡ d .boot
+  pub entries : List Entry
+  pub walked : walk b (areasOf b) (start (areasOf b)) ≡ good entries
+  pub nodes : events (d .nodes) [] ≡ map (eventAt b) entries
+
+passed : {A : Type 0} (t : Bool) (o : Option A) (x : A) → pick t o none ≡ some x → (t ≡ true) × (o ≡ some x)
+unfolding pick
+passed true o x q = (refl, q)
+passed false o x q = absurd (Option·none-ne-some x q)
+
+described-parts : (boot : ℕ) (rs : Option (List Reservation)) (f : Option Nodes) (d : Description) → described boot rs f ≡ some d
+    → (rs ≡ some (d .reservations)) × (boot ≡ d .boot) × (f ≡ some (d .nodes))
+unfolding described
+described-parts boot none f d q = absurd (Option·none-ne-some d q)
+described-parts boot (some rs) none d q = absurd (Option·none-ne-some d q)
+described-parts boot (some rs) (some f) d q =
+    let e : record { reservations = rs; boot = boot; nodes = f } ≡ d = Option·some-injective _ d q in
+    (ap (λ (x : Description). some (x .reservations)) e, ap (λ (x : Description). x .boot) e, ap (λ (x : Description). some (x .nodes)) e)
+
+walked-good : (b : List ℕ) (w : Walk) (f : Nodes) → walkNodes b w ≡ some f → (ts : List Entry) × (w ≡ good ts) × (nodesOf (map (eventAt b) ts) ≡ some f)
+unfolding walkNodes
+walked-good b (bad n) f q = absurd (Option·none-ne-some f q)
+walked-good b (good ts) f q = (ts, refl, q)
+
+module _ (b : List ℕ) where
+  read-parts : (d : Description) → reading b ≡ some d → Parts b d
+  unfolding reading readNodes
+  read-parts d q =
+      let h = passed (goodHeader b) _ d q in
+      let p = described-parts (areasOf b .boot) _ _ d (h .1) in
+      let w = walked-good b (walk b (areasOf b) (start (areasOf b))) (d .nodes) (p .2) in
+      record { header = h .0; reservations = p .0; boot = p .1; entries = w .0; walked = w .1; nodes = nodes-exactly _ (d .nodes) .0 (w .2) }
+
+  parts-read : (d : Description) → Parts b d → reading b ≡ some d
+  unfolding reading readNodes walkNodes described
+  parts-read d p =
+      let n : nodesOf (map (eventAt b) (p .entries)) ≡ some (d .nodes) = nodes-exactly _ (d .nodes) .1 (p .nodes) in
+      hit _ _ (p .header) ∙ rw (p .reservations, p .walked, n, p .boot)
+
+  -- the reading gives a description exactly where it has these parts
+  pub reading-is : (d : Description) → (reading b ≡ some d) ↔ Parts b d
+  reading-is d = (read-parts d, parts-read d)
+
+  -- a reading refuses nothing else: of such a header, reservations and walk there is always a description
+  pub read-exactly : (rs : List Reservation) (ts : List Entry) → goodHeader b ≡ true → readReservations b (areasOf b) ≡ some rs
+      → walk b (areasOf b) (start (areasOf b)) ≡ good ts
+      → (f : Nodes) × (events f [] ≡ map (eventAt b) ts) × (reading b ≡ some (record { reservations = rs; boot = areasOf b .boot; nodes = f }))
+  read-exactly rs ts h r w =
+      let n = nested b (areasOf b) ts w in
+      let e : events (n .0) [] ≡ map (eventAt b) ts = nodes-exactly _ (n .0) .0 (n .1) in
+      (n .0, e, parts-read _ (record { header = h; reservations = r; boot = refl; entries = ts; walked = w; nodes = e }))
