@@ -1,5 +1,5 @@
 -- The bound on a walk's tokens refuses nothing: each token moves the place on, and never past the structure's end.
-use mathlib.Core.Path.{_≡_, refl, ap, subst, _∙_}
+use mathlib.Core.Path.{_≡_, refl, sym, ap, subst, _∙_}
 use mathlib.Core.Bool.{Bool, true, false}
 use mathlib.Core.List.{List}
 use Prim.Native.Nat.{ℕ, zero, suc, _+_, _-_, _≤_, _<_}
@@ -142,9 +142,14 @@ module _ (b : List ℕ) (a : Areas) where
       follow-same a s (stepAt b a s) (step-moves b a s w) (steps b a k) (steps b a l)
       λ s' m. fuel k l s' (m .within) (omega (arith, m .on, m .within)) (omega (arith, m .on, m .within))
 
+  enough : (k : ℕ) (s : State) → s .at ≤ a .«structure_end» → a .«structure_end» - s .at < k → steps b a k s ≡ walk b a s
+  unfolding walk
+  enough k s w p = fuel k _ s w p (omega arith)
+
   -- a walk is its first token and the walk on from it
   pub walk-step : (s : State) → s .at ≤ a .«structure_end» → walk b a s ≡ follow (stepAt b a s) (walk b a)
-  unfolding walk steps
+  unfolding steps
   walk-step s w =
-      follow-same a s (stepAt b a s) (step-moves b a s w) (steps b a (a .«structure_end» - s .at)) (walk b a)
-      λ s' m. fuel (a .«structure_end» - s .at) (suc (a .«structure_end» - s' .at)) s' (m .within) (omega (arith, m .on, m .within)) (omega arith)
+      let left : ℕ = a .«structure_end» - s .at in
+      sym (enough (suc left) s w (omega arith))
+      ∙ follow-same a s (stepAt b a s) (step-moves b a s w) (steps b a left) (walk b a) λ s' m. enough left s' (m .within) (omega (arith, m .on, m .within))
