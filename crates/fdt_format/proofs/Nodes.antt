@@ -36,7 +36,7 @@ tell-events (node name ps children later) es g around e =
     let after : tell rest ≡ told [] no-more (join later g ∷ around) = rw (tell-events later es g around e) in
     let below : tell (events children rest) ≡ told [] children (join later g ∷ around) =
     rw (tell-events children rest no-more (join later g ∷ around) after, join-none children) in
-    rw (tell-properties ps (events children rest) children (join later g ∷ around) below)
+    ap (inFront (begins name)) (tell-properties ps (events children rest) children (join later g ∷ around) below)
 
 -- the events of nodes tell them
 pub nodes-events : (f : Nodes) → nodesOf (events f []) ≡ some f
