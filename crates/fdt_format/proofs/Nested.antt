@@ -21,7 +21,7 @@ use Rattle.fdt_format.specs.Step.{pick, beginAt, propertyAt, endAt, fina
 use Rattle.fdt_format.specs.Tokens.{beginToken, endToken, propertyToken}
 use Rattle.fdt_format.specs.Walk.{Walk, bad, good, more, follow, steps, walk, start}
 use Rattle.fdt_format.proofs.Nodes.{Accepted, described-by, nodes-exactly}
-use Rattle.fdt_format.proofs.Walks.{skip, hit, by-test}
+use Rattle.fdt_format.proofs.Walks.{skip, hit, by-test, by-token}
 
 -- ---- what an entry tells, by its token
 
@@ -79,13 +79,8 @@ module _ (b : List ℕ) (a : Areas) (s : State) where
   final-kinds = by-test (Kinds b s) _ _ _ (λ h. by-test (Kinds b s) _ _ _ (λ _. eqb-true _ _ h) (λ _. tt)) (λ _. tt)
 
   step-kinds : Kinds b s (stepAt b a s)
-  unfolding stepAt Kinds
-  step-kinds =
-      by-test (Kinds b s) _ _ _ (λ _. tt)
-      λ _. by-test (Kinds b s) _ _ _ (λ _. begin-kinds)
-      λ _. by-test (Kinds b s) _ _ _ (λ _. end-kinds)
-      λ _. by-test (Kinds b s) _ _ _ (λ _. by-test (Kinds b s) _ _ _ (λ r. property-kinds r) (λ _. tt))
-      λ _. by-test (Kinds b s) _ _ _ (λ _. final-kinds) (λ _. tt)
+  unfolding Kinds
+  step-kinds = by-token (Kinds b s) b a s (λ _. tt) begin-kinds (λ _. end-kinds) property-kinds final-kinds
 
 -- ---- one token more in front
 

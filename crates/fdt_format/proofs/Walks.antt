@@ -63,6 +63,19 @@ zero-ge b zero at = omega arith
 zero-ge b (suc k) at =
     by-test (λ (n : ℕ). at ≤ n) (eqb (getD b at 0) 0) at (zeroFrom b k (suc at)) (λ _. omega arith) (λ _. omega (arith, zero-ge b k (suc at)))
 
+-- ---- what stands at a state
+
+-- what holds of every refusal and of each token, where it is read, holds of what stands at a state
+pub by-token : (P : Step → Type 0) (b : List ℕ) (a : Areas) (s : State) → ((n : ℕ) → P (step.Bad n)) → P (beginAt b a s)
+    → (ltb (a .«structure_end» - s .at) 4 ≡ false → P (endAt s)) → (s .room ≡ true → P (propertyAt b a s)) → P (finalAt a s) → P (stepAt b a s)
+unfolding stepAt
+by-token P b a s refused begin end property final =
+    by-test P _ _ _ (λ _. refused _)
+    λ k. by-test P _ _ _ (λ _. begin)
+    λ _. by-test P _ _ _ (λ _. end k)
+    λ _. by-test P _ _ _ (λ _. by-test P _ _ _ property (λ _. refused _))
+    λ _. by-test P _ _ _ (λ _. final) (λ _. refused _)
+
 -- ---- how a token moves the place
 
 roundUp-ge : (m n : ℕ) → n ≤ roundUp m n
@@ -111,13 +124,8 @@ module _ (b : List ℕ) (a : Areas) (s : State) (w : s .at ≤ a .«structure_en
   final-moves = by-test (Moves a s) _ _ _ (λ _. by-test (Moves a s) _ _ _ (λ _. tt) (λ _. tt)) (λ _. tt)
 
   step-moves : Moves a s (stepAt b a s)
-  unfolding stepAt Moves
-  step-moves =
-      by-test (Moves a s) _ _ _ (λ _. tt)
-      λ k. by-test (Moves a s) _ _ _ (λ _. begin-moves)
-      λ _. by-test (Moves a s) _ _ _ (λ _. end-moves k)
-      λ _. by-test (Moves a s) _ _ _ (λ _. by-test (Moves a s) _ _ _ (λ _. property-moves) (λ _. tt))
-      λ _. by-test (Moves a s) _ _ _ (λ _. final-moves) (λ _. tt)
+  unfolding Moves
+  step-moves = by-token (Moves a s) b a s (λ _. tt) begin-moves end-moves (λ _. property-moves) final-moves
 
   pub moved : {t : Entry} {s' : State} → stepAt b a s ≡ step.Entry t s' → Moved a s s'
   unfolding Moves
