@@ -1,7 +1,8 @@
 -- Laws of the names in the strings: each stands where it was first used, once, and stays there as names are added at the end.
+use mathlib.Core.Logic.{_⊎_, inl, inr}
 use mathlib.Core.Path.{_≡_, refl, sym, ap, _∙_}
 use mathlib.Core.Bool.{Bool, true, false, cond}
-use mathlib.Core.List.{List, [], _∷_, _++_, append-assoc, append-nil, List·Memᴰ, List·Memᴰ·head, List·Memᴰ·tail}
+use mathlib.Core.List.{List, [], _∷_, _++_, append-assoc, append-nil, List·Memᴰ, List·Memᴰ·head, List·Memᴰ·tail, List·Memᴰ·not-nil, List·Memᴰ·append-cases, List·Memᴰ·eq-of-singleton}
 use Prim.Native.Nat.{ℕ, _+_}
 use native.Mathlib.Omega.{arith}
 use lib.ListN.{length}
@@ -125,3 +126,54 @@ module _ {names : List (List ℕ)} (p : PlainNames names) where
   has-stands name h =
       let f : firstFrom 0 (entries (joined names)) name ≡ At (h .0) = ap (λ (l : List (List ℕ)). firstFrom 0 l name) (entries-joined p) ∙ h .1 in
       rw (h .1) (found-stands (joined names) name (h .0) f)
+
+-- the strings of events fall into their names again
+pub names-entries : (es : List Event) → AllPlain es → entries (joined (namesOf es)) ≡ namesOf es
+unfolding namesOf
+names-entries es a = entries-joined (names-plain es a no-entry)
+
+-- ---- each name once
+
+-- no name is there twice
+unfoldable pub Distinct : List (List ℕ) → Type 0
+Distinct [] = Unit {0}
+Distinct (name ∷ names) = (List·Memᴰ name names → ⊥) × Distinct names
+
+-- a name that is one of names is found
+pub mem-found : {name : List ℕ} {names : List (List ℕ)} (k : ℕ) → List·Memᴰ name names → (i : ℕ) × (firstFrom k names name ≡ At i)
+unfolding firstFrom
+mem-found k (List·Memᴰ·head {x = e} q) = (k, simp (eq-same e _ (sym q)))
+mem-found {name} k (List·Memᴰ·tail {x = e} m) = go (same e name) (mem-found (k + (length e + 1)) m)
+  where
+    go : {x : Found} (z : Bool) → (i : ℕ) × (x ≡ At i) → (i : ℕ) × (cond z (At k) x ≡ At i)
+    go true f = (k, refl)
+    go false f = f
+
+distinct-snoc : (names : List (List ℕ)) (name : List ℕ) → Distinct names → (List·Memᴰ name names → ⊥) → Distinct (names ++ (name ∷ []))
+unfolding Distinct
+distinct-snoc [] name d n = (λ m. List·Memᴰ·not-nil m, tt)
+distinct-snoc (e ∷ es) name d n = (λ m. go (List·Memᴰ·append-cases es m), distinct-snoc es name (d .1) (λ m. n (List·Memᴰ·tail m)))
+  where
+    go : List·Memᴰ e es ⊎ List·Memᴰ e (name ∷ []) → ⊥
+    go (inl m) = d .0 m
+    go (inr m) = n (List·Memᴰ·head (sym (List·Memᴰ·eq-of-singleton m)))
+
+with-distinct : (names : List (List ℕ)) (name : List ℕ) → Distinct names → Distinct (withName names name)
+unfolding withName orAtEnd
+with-distinct names name d = go (firstFrom 0 names name) refl
+  where
+    go : (f : Found) → firstFrom 0 names name ≡ f → Distinct (orAtEnd f names name)
+    go (At i) e = d
+    go Nothing e = distinct-snoc names name d λ m. let f = mem-found 0 m in let g = f .1 in let n : _≡_ {A = ℕ} 0 1 = cc in omega arith
+
+pub names-distinct : (names : List (List ℕ)) (es : List Event) → Distinct names → Distinct (namesFrom names es)
+unfolding namesFrom
+names-distinct names [] d = d
+names-distinct names (begins name ∷ es) d = names-distinct names es d
+names-distinct names (has (name ≔ value) ∷ es) d = names-distinct (withName names name) es (with-distinct names name d)
+names-distinct names (ends ∷ es) d = names-distinct names es d
+
+-- the names of events are there once each
+pub names-once : (es : List Event) → Distinct (namesOf es)
+unfolding namesOf Distinct
+names-once es = names-distinct [] es tt
