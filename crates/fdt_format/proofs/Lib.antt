@@ -1,8 +1,11 @@
 pub mod HeaderBytes
+pub mod Named
 pub mod Nested
 pub mod Nodes
 pub mod Strings
 pub mod Structure
 pub mod Tokens
+pub mod TokensRead
 pub mod Walks
 pub mod Words
+pub mod Written

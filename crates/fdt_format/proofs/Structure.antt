@@ -1,15 +1,14 @@
 -- Laws of the bytes of events: how many they are, and that events added at the end leave those before as they are.
 use mathlib.Core.Path.{_≡_, refl, sym, ap, _∙_}
 use mathlib.Core.List.{List, [], _∷_, _++_, append-assoc, append-nil}
-use Prim.Native.Nat.{ℕ, _+_, _%_}
-use native.Mathlib.Omega.{arith}
+use Prim.Native.Nat.{ℕ, _+_}
 use lib.ListN.{length, length-append}
 use Rattle.fdt_bytes.specs.Padding.{roundUp}
 use Rattle.fdt_format.specs.Description.{_≔_}
 use Rattle.fdt_format.specs.Events.{Event, begins, has, ends}
 use Rattle.fdt_format.specs.Tokens.{propertyBytes}
 use Rattle.fdt_format.specs.Blob.{namesFrom, namesOf, offsetOf, eventBytes, structureBytes}
-use Rattle.fdt_format.proofs.Strings.{Has, AllHas, offset-stays, names-grow, names-append, names-have}
+use Rattle.fdt_format.proofs.Strings.{AllHas, offset-stays, names-grow, names-append, names-have}
 use Rattle.fdt_format.proofs.Tokens.{length-begin, length-property, length-end}
 
 -- ---- sizes

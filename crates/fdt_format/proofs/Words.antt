@@ -1,7 +1,7 @@
 -- Numbers read where they were written: one law over the width, and the k-th of several.
-use mathlib.Core.Path.{_≡_, refl, sym, ap, _∙_}
+use mathlib.Core.Path.{_≡_, ap, _∙_}
 use mathlib.Core.List.{List, [], _∷_, _++_, append-assoc}
-use Prim.Native.Nat.{ℕ, zero, suc, _+_, _*_, _<_, _^_}
+use Prim.Native.Nat.{ℕ, zero, suc, _+_, _*_, _≤_, _<_, _^_}
 use native.Mathlib.Nat.{mul-suc, mul-zero}
 use native.Mathlib.Omega.{arith}
 use lib.ListN.{length, take, drop, getD, length-append}
@@ -19,6 +19,9 @@ pub record Holds (b : List ℕ) (at : ℕ) (bs : List ℕ) : Type 0 where
 module _ {b : List ℕ} {at : ℕ} {bs : List ℕ} (h : Holds b at bs) where
   pub holds-drop : drop at b ≡ bs ++ h .behind
   holds-drop = ap (drop at) (h .split) ∙ drop-at (h .before) (bs ++ h .behind) at (h .place)
+
+  pub holds-fits : at + length bs ≤ length b
+  holds-fits = omega (arith, h .place, simp length-append at (ap length (h .split)))
 
   pub holds-take : (n : ℕ) → length bs ≡ n → take n (drop at b) ≡ bs
   holds-take n e = ap (take n) holds-drop ∙ take-at bs (h .behind) n e
