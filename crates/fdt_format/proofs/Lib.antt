@@ -1,7 +1,10 @@
 pub mod HeaderBytes
+pub mod HeaderRead
 pub mod Named
 pub mod Nested
 pub mod Nodes
+pub mod ReadBack
+pub mod ReservationsRead
 pub mod Strings
 pub mod Structure
 pub mod Tokens
