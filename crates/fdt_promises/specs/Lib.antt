@@ -1,2 +1,4 @@
+pub mod Calls
 pub mod Effects
+pub mod Run
 pub mod Starred

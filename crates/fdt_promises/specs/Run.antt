@@ -1,0 +1,209 @@
+-- A run: any list of calls, refused ones among them, from an accepted opening to an accepted finish with no other opening between.
+use mathlib.Core.Path.{_≡_}
+use mathlib.Core.Bool.{Bool, true, false}
+use mathlib.Core.List.{List, [], _∷_, _++_}
+use mathlib.Core.Option.{Option, none, some}
+use Prim.Native.Nat.{ℕ, _+_, _-_, _<_, _^_}
+use lib.ListN.{length, take}
+use Rattle.fdt_bytes.specs.Padding.{zeros, roundUp}
+use Rattle.fdt_strings.specs.Entries.{joined}
+use Rattle.fdt_values.specs.Value.{valueBytes}
+use Rattle.fdt_format.specs.Blob.{namesOf, structureBytes}
+use Rattle.fdt_format.specs.Description.{_≔_, Nodes, Reservation, reserved, Description}
+use Rattle.fdt_format.specs.Events.{Event, begins, has, ends, nodesOf}
+use Rattle.fdt_format.specs.Header.{headerSize, structureStart, reservationBytes}
+use Rattle.fdt_record.specs.declared.Answer.the-variants.{Done}
+use Rattle.fdt_record.specs.declared.Record.{Record}
+use Rattle.fdt_record.specs.Answers.{upon}
+use Rattle.fdt_record.specs.Limits.{blobCeiling, stringsCeiling, phandlesCeiling, usable}
+use Rattle.fdt_opening.specs.Opening.{count}
+use Rattle.fdt_phandles.specs.Phandle.{phandleName, phandleValue, recordAnswer}
+use Rattle.fdt_finish.specs.Shown.{shown}
+use Rattle.fdt_promises.specs.Calls.{Call, asks, Request, to-open, to-boot, to-begin, to-end, to-have, to-mark, to-finish, to-show, Desk, answer, after}
+
+-- ---- calls one after the other
+
+-- what they leave
+unfoldable pub runs : List Request → Desk → Desk
+runs [] s = s
+runs (c ∷ cs) s = runs cs (after c s)
+
+-- those of them that are accepted
+unfoldable pub accepted : List Request → Desk → List Request
+accepted [] s = []
+accepted (c ∷ cs) s = upon (answer c s) (c ∷ accepted cs (after c s)) (accepted cs (after c s))
+
+-- the value that a phandle call records: once 13 and 16 are passed, accepted or not
+unfoldable pub recordedBy : Request → Desk → List ℕ
+recordedBy (to-open numbers) s = []
+recordedBy (to-boot n) s = []
+recordedBy (to-begin name) s = []
+recordedBy (to-end handle) s = []
+recordedBy (to-have name v) s = []
+recordedBy (to-mark value) s =
+    upon (recordAnswer (s .writer) (length (s .blob)) (s .strings) (s .phandles) value) (value ∷ []) []
+recordedBy to-finish s = []
+recordedBy to-show s = []
+
+-- the values that calls record
+unfoldable pub recorded : List Request → Desk → List ℕ
+recorded [] s = []
+recorded (c ∷ cs) s = recordedBy c s ++ recorded cs (after c s)
+
+-- ---- what accepted calls describe
+
+-- the event that an accepted call is
+unfoldable pub tells : Request → List Event
+tells (to-open numbers) = []
+tells (to-boot n) = []
+tells (to-begin name) = begins name ∷ []
+tells (to-end handle) = ends ∷ []
+tells (to-have name v) = has (name ≔ valueBytes v) ∷ []
+tells (to-mark value) = has (phandleName ≔ valueBytes (phandleValue value)) ∷ []
+tells to-finish = []
+tells to-show = []
+
+-- the events of accepted calls
+unfoldable pub eventsOf : List Request → List Event
+eventsOf [] = []
+eventsOf (c ∷ cs) = tells c ++ eventsOf cs
+
+-- the boot number after an accepted call
+unfoldable pub boots : Request → ℕ → ℕ
+boots (to-open numbers) n = n
+boots (to-boot m) n = m
+boots (to-begin name) n = n
+boots (to-end handle) n = n
+boots (to-have name v) n = n
+boots (to-mark value) n = n
+boots to-finish n = n
+boots to-show n = n
+
+-- the boot number after accepted calls
+unfoldable pub bootFrom : ℕ → List Request → ℕ
+bootFrom n [] = n
+bootFrom n (c ∷ cs) = bootFrom (boots c n) cs
+
+-- reservations of numbers, address and size in turn
+unfoldable pub reservationsOf : List ℕ → List Reservation
+reservationsOf [] = []
+reservationsOf (address ∷ []) = []
+reservationsOf (address ∷ size ∷ numbers) = reserved address size ∷ reservationsOf numbers
+
+-- a description with these nodes, where there are such
+unfoldable pub withNodes : List Reservation → ℕ → Option Nodes → Option Description
+withNodes rs n none = none
+withNodes rs n (some nodes) = some (record { reservations = rs; boot = n; nodes = nodes })
+
+-- what an opening with these numbers and accepted calls describe
+unfoldable pub describe : List ℕ → List Request → Option Description
+describe numbers cs = withNodes (reservationsOf numbers) (bootFrom 0 cs) (nodesOf (eventsOf cs))
+
+-- ---- what stands after every call
+
+-- the size of an event's bytes
+unfoldable pub sizeOf : Event → ℕ
+sizeOf (begins name) = 4 + roundUp 4 (length name + 1)
+sizeOf (has (name ≔ value)) = 12 + roundUp 4 (length value)
+sizeOf ends = 4
+
+-- of all of them
+unfoldable pub sizes : List Event → ℕ
+sizes [] = 0
+sizes (e ∷ es) = sizeOf e + sizes es
+
+-- the depth after an event
+unfoldable pub deepens : Event → ℕ → ℕ
+deepens (begins name) depth = depth + 1
+deepens (has p) depth = depth
+deepens ends depth = depth - 1
+
+-- whether a node was ended last, after an event
+unfoldable pub closes : Event → Bool → Bool
+closes (begins name) ended = false
+closes (has p) ended = ended
+closes ends ended = true
+
+-- after events
+unfoldable pub depthFrom : ℕ → List Event → ℕ
+depthFrom depth [] = depth
+depthFrom depth (e ∷ es) = depthFrom (deepens e depth) es
+
+unfoldable pub endedFrom : Bool → List Event → Bool
+endedFrom ended [] = ended
+endedFrom ended (e ∷ es) = endedFrom (closes e ended) es
+
+-- what a desk holds while a run is open: of an opening's numbers, the accepted calls' events and boot number, and the recorded phandles
+pub record Holds (numbers : List ℕ) (es : List Event) (boot : ℕ) (phandles : List ℕ) (s : Desk) : Type 0 where
+  pub unfinished : s .writer .finished ≡ false
+  -- the used part: 40 zeros, the reservations and the bytes of the accepted calls, in order
+  pub bytes : take (s .writer .«blob_used») (s .blob) ≡ zeros headerSize ++ (reservationBytes numbers ++ structureBytes (namesOf es) es)
+  -- 56 plus 16 for each reservation plus the sizes of the accepted calls
+  pub used : s .writer .«blob_used» ≡ structureStart (count numbers) + sizes es
+  -- each name once, whole, in order of first accepted use
+  pub names : take (s .writer .«strings_used») (s .strings) ≡ joined (namesOf es)
+  pub names-used : s .writer .«strings_used» ≡ length (joined (namesOf es))
+  pub marks : take (s .writer .«phandles_used») (s .phandles) ≡ phandles
+  pub marks-used : s .writer .«phandles_used» ≡ length phandles
+  pub depth : s .writer .«node_depth» ≡ depthFrom 0 es
+  pub ended : s .writer .«node_ended» ≡ endedFrom false es
+  pub boot-number : s .writer .«boot_cpuid_phys» ≡ boot
+  pub reservations : s .writer .reservations ≡ count numbers
+  -- usable lengths are those at opening
+  pub blob-room : s .writer .«blob_room» ≡ usable blobCeiling (length (s .blob))
+  pub strings-room : s .writer .«strings_room» ≡ usable stringsCeiling (length (s .strings))
+  pub phandles-room : s .writer .«phandles_room» ≡ usable phandlesCeiling (length (s .phandles))
+
+-- ---- a run
+
+-- no opening among calls, and boot numbers of 32 bits, as the call's type has them
+unfoldable pub InRun : Request → Type 0
+InRun (to-open numbers) = ⊥
+InRun (to-boot n) = n < 2 ^ 32
+InRun (to-begin name) = Unit {0}
+InRun (to-end handle) = Unit {0}
+InRun (to-have name v) = Unit {0}
+InRun (to-mark value) = Unit {0}
+InRun to-finish = Unit {0}
+InRun to-show = Unit {0}
+
+unfoldable pub AllInRun : List Request → Type 0
+AllInRun [] = Unit {0}
+AllInRun (c ∷ cs) = InRun c × AllInRun cs
+
+-- what calls ask for
+unfoldable pub allAsk : List Call → List Request
+allAsk [] = []
+allAsk (c ∷ cs) = asks c ∷ allAsk cs
+
+-- an opening that is accepted, over any record and buffers of any sizes and contents, and calls after it
+pub record Run : Type 0 where
+  pub before : Desk
+  pub numbers : List ℕ
+  pub calls : List Call
+  pub opened : answer (to-open numbers) before ≡ Done
+  pub between : AllInRun (allAsk calls)
+
+-- the desk after the opening
+unfoldable pub opened-desk : Run → Desk
+opened-desk r = after (to-open (r .numbers)) (r .before)
+
+-- the desk after the calls
+unfoldable pub desk : Run → Desk
+desk r = runs (allAsk (r .calls)) (opened-desk r)
+
+-- the calls that were accepted in the run
+unfoldable pub history : Run → List Request
+history r = accepted (allAsk (r .calls)) (opened-desk r)
+
+-- what the run describes
+unfoldable pub description : Run → Option Description
+description r = describe (r .numbers) (history r)
+
+-- the run ends with an accepted finish
+unfoldable pub Finishes : Run → Type 0
+Finishes r = answer to-finish (desk r) ≡ Done
+
+-- the blob that is shown then
+unfoldable pub blob : Run → List ℕ
+blob r = shown (after to-finish (desk r) .writer) (after to-finish (desk r) .blob)
