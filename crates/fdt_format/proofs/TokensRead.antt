@@ -21,6 +21,7 @@ use Rattle.fdt_format.specs.Step.{wordAt, zeroFrom, beginAt, propertyAt,
 use Rattle.fdt_format.specs.Reading.{eventAt}
 use Rattle.fdt_format.specs.Blob.{offsetOf}
 use Rattle.fdt_format.proofs.Named.{zero-found, name-read}
+use Rattle.fdt_format.proofs.Nested.{event-begins, event-ends, event-has}
 use Rattle.fdt_format.proofs.Structure.{eventSize}
 use Rattle.fdt_format.proofs.Walks.{skip, hit}
 use Rattle.fdt_format.proofs.Words.{Holds, holds-left, holds-right, holds-take, holds-fits, number-at, cell-at}
@@ -89,7 +90,7 @@ pub record Named (b : List ℕ) (a : Areas) (names : List (List ℕ)) (name : Li
 
 module _ (b : List ℕ) (a : Areas) (names : List (List ℕ)) (s : State) where
   pub begin-read : (name : List ℕ) → s .at % 4 ≡ 0 → Holds b (s .at) (beginBytes name) → s .at + eventSize (begins name) ≤ a .«structure_end» → NoZero name → Read b a names s (begins name)
-  unfolding beginBytes padded entry stepAt beginAt entryOf after depthAfter roomAfter eventSize eventAt roundUp
+  unfolding beginBytes padded entry stepAt beginAt entryOf after depthAfter roomAfter eventSize roundUp
   begin-read name m h le z =
       let w : wordAt b (s .at) ≡ beginToken = word-at 1 (holds-left (bigEndian 4 1) (padded 4 (entry name)) h) (omega arith) in
       let n : Holds b (s .at + 4) (entry name) =
@@ -104,21 +105,21 @@ module _ (b : List ℕ) (a : Areas) (names : List (List ℕ)) (s : State) where
             rw (w, f)
             (skip _ _ (le-ltb _ _ t₁) ∙ hit _ _ refl ∙ skip _ _ (lt-leb _ _ t₂) ∙ skip _ _ (le-ltb _ _ t₃)
             ∙ same-place (round-from (s .at) (length name) m));
-        told = hit _ _ refl ∙ ap begins (name-read z n);
+        told = event-begins b (entryOf a names s (begins name)) refl ∙ ap begins (name-read z n);
       }
 
   pub end-read : Holds b (s .at) endBytes → s .at + eventSize ends ≤ a .«structure_end» → 0 < s .depth → Read b a names s ends
-  unfolding endBytes stepAt endAt entryOf after depthAfter roomAfter eventSize eventAt
+  unfolding endBytes stepAt endAt entryOf after depthAfter roomAfter eventSize
   end-read h le d =
       let w : wordAt b (s .at) ≡ endToken = word-at 2 h (omega arith) in
       let t₁ : 4 ≤ a .«structure_end» - s .at = omega arith in
       record {
         step = rw w (skip _ _ (le-ltb _ _ t₁) ∙ skip _ _ refl ∙ hit _ _ refl ∙ skip _ _ (ne-eqb (s .depth) 0 (λ z. omega arith)));
-        told = skip _ _ refl ∙ hit _ _ refl;
+        told = event-ends b (entryOf a names s ends) refl;
       }
 
   pub property-read : (name value : List ℕ) → length b < 2 ^ 32 → Holds b (s .at) (propertyBytes (offsetOf names name) value) → s .at + eventSize (has (name ≔ value)) ≤ a .«structure_end» → s .room ≡ true → Named b a names name → Read b a names s (has (name ≔ value))
-  unfolding propertyBytes padded entry stepAt propertyAt entryOf after depthAfter roomAfter eventSize eventAt wordAt
+  unfolding propertyBytes padded entry stepAt propertyAt entryOf after depthAfter roomAfter eventSize wordAt
   property-read name value small h le room n =
       let offset = offsetOf names name in
       let words : List ℕ = propertyToken ∷ length value ∷ offset ∷ [] in
@@ -142,7 +143,7 @@ module _ (b : List ℕ) (a : Areas) (names : List (List ℕ)) (s : State) where
             rw (w, w₁, w₂, f)
             (skip _ _ (le-ltb _ _ t₁) ∙ skip _ _ refl ∙ skip _ _ refl ∙ hit _ _ refl ∙ hit _ _ room
             ∙ skip _ _ (le-ltb _ _ t₂) ∙ skip _ _ (le-ltb _ _ t₃) ∙ skip _ _ (lt-leb _ _ k) ∙ same-place (let r : s .at + 12 + roundUp 4 (length value) ≡ s .at + (12 + roundUp 4 (length value)) = omega arith in r));
-        told = skip _ _ refl ∙ skip _ _ refl ∙ rw (name-read (n .plain) (n .held), holds-take v (length value) refl);
+        told = event-has b (entryOf a names s (has (name ≔ value))) refl ∙ rw (name-read (n .plain) (n .held), holds-take v (length value) refl);
       }
 
   pub final-read : (strings : List ℕ) → Holds b (s .at) (finalBytes strings) → s .at + 4 ≡ a .«structure_end» → s .depth ≡ 0 → stepAt b a s ≡ step.Final
