@@ -30,13 +30,15 @@ module _ (rs : List Reservation) (boot : ℕ) (es : List Event) where
   abbrev stringsStart : ℕ
   stringsStart = structureStart (length rs) + length (structureBytes (namesOf es) es) + 4
 
+  -- the header of the blob
   abbrev header : List ℕ
   header = headerBytes (length rs) stringsStart (length (joined (namesOf es))) boot
 
+  -- what stands behind the reservations
   abbrev behind : List ℕ
   behind = structureBytes (namesOf es) es ++ finalBytes (joined (namesOf es))
 
-  -- the parts of a blob
+  -- each part stands where the header says
   whole-held : Holds (blobFrom rs boot es) 0 (header ++ (reservationBytes (numbersOf rs) ++ behind))
   unfolding blobFrom
   whole-held = record { before = []; behind = []; split = sym (append-nil _); place = refl }

@@ -28,16 +28,19 @@ use Rattle.fdt_format.proofs.Words.{Holds, holds-left, holds-right, hol
 
 -- ---- what each event makes of a state
 
+-- how many nodes are open after it
 unfoldable pub depthAfter : ℕ → Event → ℕ
 depthAfter depth (begins name) = depth + 1
 depthAfter depth (has p) = depth
 depthAfter depth ends = depth - 1
 
+-- whether a property may stand after it
 unfoldable pub roomAfter : Event → Bool
 roomAfter (begins name) = true
 roomAfter (has p) = true
 roomAfter ends = false
 
+-- the state after it
 unfoldable pub after : State → Event → State
 after s e = record { at = s .at + eventSize e; depth = depthAfter (s .depth) e; room = roomAfter e }
 
@@ -53,6 +56,7 @@ round-from : (at n : ℕ) → at % 4 ≡ 0 → roundUp 4 (at + 4 + n + 1) ≡ at
 unfolding roundUp padding
 round-from at n m = omega arith
 
+-- a word that was written is read
 pub word-at : {b : List ℕ} {at : ℕ} (v : ℕ) → Holds b at (bigEndian 4 v) → v < 2 ^ 32 → wordAt b at ≡ v
 unfolding wordAt
 word-at v h l = number-at 4 v h (omega arith)

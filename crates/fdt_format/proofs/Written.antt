@@ -123,12 +123,17 @@ module _ (b : List ℕ) (a : Areas) (es : List Event) (l : Laid b a es) where
       let final = holds-right (structureBytes names es) (finalBytes (joined names)) (l .held) (a .structure + eventsSize es) (ap (λ (n : ℕ). a .structure + n) (structure-size names es)) in
       holds-right (bigEndian 4 finalToken) (joined names) final (a .strings) (omega (arith, length-bigEndian 4 finalToken, l .structure-ends, l .strings-begin))
 
-  -- the nodes that are read are those that the events tell
-  pub nodes-read : Accepted 0 false es → AllPlain es → readNodes b a ≡ nodesOf es
-  unfolding readNodes walkNodes start namesOf
-  nodes-read c p =
-      let names = namesOf es in
-      let every = named b a names (names-plain es p no-entry) strings-held (l .strings-end) in
-      let stood : Stood b a names (joined names) (start a) es = record { multiple = l .multiple; ended = l .structure-ends; held = l .held } in
-      let w = walk-written b a names (joined names) (l .small) every es 0 false (start a) c refl (λ _ z. absurd (omega arith)) p (names-have [] es) stood in
-      ap (walkNodes b) (w .walked) ∙ ap nodesOf (w .told)
+  module _ (c : Accepted 0 false es) (p : AllPlain es) where
+    -- the walk finds the entries of the events
+    pub laid-walked : Walked b a (namesOf es) (start a) es
+    unfolding start namesOf
+    laid-walked =
+        let names = namesOf es in
+        let every = named b a names (names-plain es p no-entry) strings-held (l .strings-end) in
+        let stood : Stood b a names (joined names) (start a) es = record { multiple = l .multiple; ended = l .structure-ends; held = l .held } in
+        walk-written b a names (joined names) (l .small) every es 0 false (start a) c refl (λ _ z. absurd (omega arith)) p (names-have [] es) stood
+
+    -- the nodes that are read are those that the events tell
+    pub nodes-read : readNodes b a ≡ nodesOf es
+    unfolding readNodes walkNodes
+    nodes-read = ap (walkNodes b) (laid-walked .walked) ∙ ap nodesOf (laid-walked .told)
