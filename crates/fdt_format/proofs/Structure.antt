@@ -3,26 +3,14 @@ use mathlib.Core.Path.{_≡_, refl, sym, ap, _∙_}
 use mathlib.Core.List.{List, [], _∷_, _++_, append-assoc, append-nil}
 use Prim.Native.Nat.{ℕ, _+_}
 use lib.ListN.{length, length-append}
-use Rattle.fdt_bytes.specs.Padding.{roundUp}
 use Rattle.fdt_format.specs.Description.{_≔_}
 use Rattle.fdt_format.specs.Events.{Event, begins, has, ends}
 use Rattle.fdt_format.specs.Tokens.{propertyBytes}
-use Rattle.fdt_format.specs.Blob.{namesFrom, namesOf, offsetOf, eventBytes, structureBytes}
+use Rattle.fdt_format.specs.Blob.{namesFrom, namesOf, offsetOf, eventBytes, structureBytes, eventSize, eventsSize}
 use Rattle.fdt_format.proofs.Strings.{AllHas, offset-stays, names-grow, names-append, names-have}
 use Rattle.fdt_format.proofs.Tokens.{length-begin, length-property, length-end}
 
 -- ---- sizes
-
--- how many bytes an event takes
-unfoldable pub eventSize : Event → ℕ
-eventSize (begins name) = 4 + roundUp 4 (length name + 1)
-eventSize (has (name ≔ value)) = 12 + roundUp 4 (length value)
-eventSize ends = 4
-
--- how many bytes events take
-unfoldable pub eventsSize : List Event → ℕ
-eventsSize [] = 0
-eventsSize (e ∷ es) = eventSize e + eventsSize es
 
 module _ (names : List (List ℕ)) where
   pub event-size : (e : Event) → length (eventBytes names e) ≡ eventSize e

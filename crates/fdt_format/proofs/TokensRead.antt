@@ -19,10 +19,9 @@ use Rattle.fdt_format.specs.Events.{Event, begins, has, ends}
 use Rattle.fdt_format.specs.Tokens.{beginToken, endToken, propertyToken, finalToken, beginBytes, propertyBytes, endBytes, finalBytes}
 use Rattle.fdt_format.specs.Step.{wordAt, zeroFrom, beginAt, propertyAt, endAt, finalAt, stepAt}
 use Rattle.fdt_format.specs.Reading.{eventAt}
-use Rattle.fdt_format.specs.Blob.{offsetOf}
+use Rattle.fdt_format.specs.Blob.{offsetOf, eventSize}
 use Rattle.fdt_format.proofs.Named.{zero-found, name-read}
 use Rattle.fdt_format.proofs.Nested.{event-begins, event-ends, event-has}
-use Rattle.fdt_format.proofs.Structure.{eventSize}
 use Rattle.fdt_format.proofs.Walks.{skip, hit}
 use Rattle.fdt_format.proofs.Words.{Holds, holds-left, holds-right, holds-take, holds-fits, number-at, cell-at}
 

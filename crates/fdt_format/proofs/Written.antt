@@ -17,10 +17,10 @@ use Rattle.fdt_format.specs.Events.{Event, begins, has, ends, nodesOf}
 use Rattle.fdt_format.specs.Tokens.{finalToken, finalBytes}
 use Rattle.fdt_format.specs.Walk.{good, more, follow, walk, start}
 use Rattle.fdt_format.specs.Reading.{eventAt, walkNodes, readNodes}
-use Rattle.fdt_format.specs.Blob.{namesOf, offsetOf, eventBytes, structureBytes, Plain, AllPlain}
+use Rattle.fdt_format.specs.Blob.{namesOf, offsetOf, eventBytes, structureBytes, Plain, AllPlain, eventSize, eventsSize}
 use Rattle.fdt_format.proofs.Nodes.{Accepted}
 use Rattle.fdt_format.proofs.Strings.{Has, AllHas, has-stands, names-plain, names-have}
-use Rattle.fdt_format.proofs.Structure.{eventSize, eventsSize, event-size, structure-size}
+use Rattle.fdt_format.proofs.Structure.{event-size, structure-size}
 use Rattle.fdt_format.proofs.TokensRead.{depthAfter, roomAfter, after, size-multiple, entryOf, entriesOf, Read, Named, begin-read, end-read, property-read, final-read}
 use Rattle.fdt_format.proofs.Walks.{walk-step}
 use Rattle.fdt_format.proofs.Words.{Holds, holds-left, holds-right}

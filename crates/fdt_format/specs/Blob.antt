@@ -3,6 +3,7 @@ use mathlib.Core.Path.{_≡_}
 use mathlib.Core.List.{List, [], _∷_, _++_}
 use Prim.Native.Nat.{ℕ, _+_, _<_, _^_}
 use lib.ListN.{length}
+use Rattle.fdt_bytes.specs.Padding.{roundUp}
 use Rattle.fdt_strings.specs.declared.Found.{Found}
 use Rattle.fdt_strings.specs.declared.Found.the-variants.{At, Nothing}
 use Rattle.fdt_strings.specs.Entries.{firstFrom, joined, NoZero}
@@ -50,6 +51,17 @@ eventBytes names ends = endBytes
 unfoldable pub structureBytes : List (List ℕ) → List Event → List ℕ
 structureBytes names [] = []
 structureBytes names (e ∷ es) = eventBytes names e ++ structureBytes names es
+
+-- how many bytes an event takes
+unfoldable pub eventSize : Event → ℕ
+eventSize (begins name) = 4 + roundUp 4 (length name + 1)
+eventSize (has (name ≔ value)) = 12 + roundUp 4 (length value)
+eventSize ends = 4
+
+-- how many bytes events take
+unfoldable pub eventsSize : List Event → ℕ
+eventsSize [] = 0
+eventsSize (e ∷ es) = eventSize e + eventsSize es
 
 -- reservations as numbers: address and size in turn
 unfoldable pub numbersOf : List Reservation → List ℕ

@@ -13,6 +13,7 @@ use Rattle.fdt_bytes.proofs.BigEndian.{length-bigEndian}
 use Rattle.fdt_bytes.proofs.Splice.{splice-three}
 use Rattle.fdt_strings.specs.Entries.{entry}
 use Rattle.fdt_strings.proofs.Entries.{length-entry}
+use Rattle.fdt_names.specs.Names.{hasZero}
 use Rattle.fdt_format.specs.Tokens.{beginToken, beginBytes}
 use Rattle.fdt_format.proofs.Tokens.{length-begin}
 use Rattle.fdt_record.specs.declared.Answer.{Answer}
@@ -58,6 +59,7 @@ module _ (w : Record) (lent : ℕ) (name : List ℕ) where
   pub record BeginFits : Type 0 where
     pub blob : FitBlob w lent
     pub depth : w .«node_depth» < mostDepth
+    pub plain : hasZero name ≡ false
     pub room : w .«blob_used» + length (beginBytes name) ≤ w .«blob_room»
 
   pub begin-fits : beginAnswer w lent name ≡ Done → BeginFits
@@ -67,6 +69,7 @@ module _ (w : Record) (lent : ℕ) (name : List ℕ) where
       record {
         blob = fit-blob w lent (n .1 .1 .0);
         depth = leb-false mostDepth (w .«node_depth») (n .1 .1 .1 .0);
+        plain = n .1 .1 .1 .1 .0;
         room = has-room w (length (beginBytes name)) (n .1 .1 .1 .1 .1 .1 .0);
       }
 

@@ -1,8 +1,13 @@
 pub mod Composed
+pub mod Desks
+pub mod Ended
+pub mod Growth
+pub mod Held
 pub mod NeverGiven
 pub mod OneOutcome
 pub mod OwnBytes
 pub mod PastUsable
+pub mod Runs
 pub mod Starred
 pub mod Unaltered
 pub mod Usable

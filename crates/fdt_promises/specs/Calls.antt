@@ -1,11 +1,12 @@
 -- The public calls, what each asks for, and what it answers and leaves: a call is given the newest record and the same buffers.
 use mathlib.Core.List.{List, [], _∷_}
 use Prim.Native.Nat.{ℕ}
-use lib.ListN.{length}
+use lib.ListN.{length, set}
 use Rattle.fdt_values.specs.Value.{Value, raw, cells, texts}
 use Rattle.fdt_record.specs.declared.Answer.{Answer}
 use Rattle.fdt_record.specs.declared.Answer.the-variants.{Done}
 use Rattle.fdt_record.specs.declared.Record.{Record}
+use Rattle.fdt_record.specs.Answers.{upon}
 use Rattle.fdt_opening.specs.Opening as of-opening
 use Rattle.fdt_nodes.specs.Begin as of-begin
 use Rattle.fdt_nodes.specs.End as of-end
@@ -125,3 +126,30 @@ after to-finish s = record {
   phandles = s .phandles;
 }
 after to-show s = s
+
+-- the desk once a phandle's value is recorded
+abbrev pub marked : Desk → ℕ → Desk
+marked s value = record {
+  writer = of-phandle.recorded (s .writer);
+  blob = s .blob;
+  strings = s .strings;
+  phandles = set (s .phandles) (s .writer .«phandles_used») value;
+}
+
+-- what a refused call leaves: nothing is altered. A refused opening, which takes no record, hands back the closed one. The one
+-- exception is a phandle call that passed 13 and 16: its value is recorded.
+unfoldable pub unaltered : Request → Desk → Desk
+unaltered (to-open numbers) s = record {
+  writer = of-opening.closedRecord;
+  blob = s .blob;
+  strings = s .strings;
+  phandles = s .phandles;
+}
+unaltered (to-boot n) s = s
+unaltered (to-begin name) s = s
+unaltered (to-end handle) s = s
+unaltered (to-have name v) s = s
+unaltered (to-mark value) s =
+    upon (of-phandle.recordAnswer (s .writer) (length (s .blob)) (s .strings) (s .phandles) value) (marked s value) s
+unaltered to-finish s = s
+unaltered to-show s = s

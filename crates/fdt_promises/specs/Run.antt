@@ -1,14 +1,14 @@
 -- A run: any list of calls, refused ones among them, from an accepted opening to an accepted finish with no other opening between.
 use mathlib.Core.Path.{_≡_}
 use mathlib.Core.Bool.{Bool, true, false}
-use mathlib.Core.List.{List, [], _∷_, _++_}
+use mathlib.Core.List.{List, [], _∷_, _++_, foldl}
 use mathlib.Core.Option.{Option, none, some}
 use Prim.Native.Nat.{ℕ, _+_, _-_, _<_, _^_}
 use lib.ListN.{length, take}
-use Rattle.fdt_bytes.specs.Padding.{zeros, roundUp}
+use Rattle.fdt_bytes.specs.Padding.{zeros}
 use Rattle.fdt_strings.specs.Entries.{joined}
 use Rattle.fdt_values.specs.Value.{valueBytes}
-use Rattle.fdt_format.specs.Blob.{namesOf, structureBytes}
+use Rattle.fdt_format.specs.Blob.{namesOf, structureBytes, eventsSize}
 use Rattle.fdt_format.specs.Description.{_≔_, Nodes, Reservation, reserved, Description}
 use Rattle.fdt_format.specs.Events.{Event, begins, has, ends, nodesOf}
 use Rattle.fdt_format.specs.Header.{headerSize, structureStart, reservationBytes}
@@ -69,20 +69,19 @@ eventsOf [] = []
 eventsOf (c ∷ cs) = tells c ++ eventsOf cs
 
 -- the boot number after an accepted call
-unfoldable pub boots : Request → ℕ → ℕ
-boots (to-open numbers) n = n
-boots (to-boot m) n = m
-boots (to-begin name) n = n
-boots (to-end handle) n = n
-boots (to-have name v) n = n
-boots (to-mark value) n = n
-boots to-finish n = n
-boots to-show n = n
+unfoldable pub boots : ℕ → Request → ℕ
+boots n (to-open numbers) = n
+boots n (to-boot m) = m
+boots n (to-begin name) = n
+boots n (to-end handle) = n
+boots n (to-have name v) = n
+boots n (to-mark value) = n
+boots n to-finish = n
+boots n to-show = n
 
 -- the boot number after accepted calls
-unfoldable pub bootFrom : ℕ → List Request → ℕ
-bootFrom n [] = n
-bootFrom n (c ∷ cs) = bootFrom (boots c n) cs
+unfoldable pub bootOf : List Request → ℕ
+bootOf cs = foldl boots 0 cs
 
 -- reservations of numbers, address and size in turn
 unfoldable pub reservationsOf : List ℕ → List Reservation
@@ -97,41 +96,28 @@ withNodes rs n (some nodes) = some (record { reservations = rs; boot = n; nodes 
 
 -- what an opening with these numbers and accepted calls describe
 unfoldable pub describe : List ℕ → List Request → Option Description
-describe numbers cs = withNodes (reservationsOf numbers) (bootFrom 0 cs) (nodesOf (eventsOf cs))
+describe numbers cs = withNodes (reservationsOf numbers) (bootOf cs) (nodesOf (eventsOf cs))
 
 -- ---- what stands after every call
 
--- the size of an event's bytes
-unfoldable pub sizeOf : Event → ℕ
-sizeOf (begins name) = 4 + roundUp 4 (length name + 1)
-sizeOf (has (name ≔ value)) = 12 + roundUp 4 (length value)
-sizeOf ends = 4
-
--- of all of them
-unfoldable pub sizes : List Event → ℕ
-sizes [] = 0
-sizes (e ∷ es) = sizeOf e + sizes es
-
 -- the depth after an event
-unfoldable pub deepens : Event → ℕ → ℕ
-deepens (begins name) depth = depth + 1
-deepens (has p) depth = depth
-deepens ends depth = depth - 1
+unfoldable pub deepens : ℕ → Event → ℕ
+deepens depth (begins name) = depth + 1
+deepens depth (has p) = depth
+deepens depth ends = depth - 1
 
 -- whether a node was ended last, after an event
-unfoldable pub closes : Event → Bool → Bool
-closes (begins name) ended = false
-closes (has p) ended = ended
-closes ends ended = true
+unfoldable pub closes : Bool → Event → Bool
+closes ended (begins name) = false
+closes ended (has p) = ended
+closes ended ends = true
 
 -- after events
-unfoldable pub depthFrom : ℕ → List Event → ℕ
-depthFrom depth [] = depth
-depthFrom depth (e ∷ es) = depthFrom (deepens e depth) es
+unfoldable pub depthOf : List Event → ℕ
+depthOf es = foldl deepens 0 es
 
-unfoldable pub endedFrom : Bool → List Event → Bool
-endedFrom ended [] = ended
-endedFrom ended (e ∷ es) = endedFrom (closes e ended) es
+unfoldable pub endedOf : List Event → Bool
+endedOf es = foldl closes false es
 
 -- what a desk holds while a run is open: of an opening's numbers, the accepted calls' events and boot number, and the recorded phandles
 pub record Holds (numbers : List ℕ) (es : List Event) (boot : ℕ) (phandles : List ℕ) (s : Desk) : Type 0 where
@@ -139,14 +125,14 @@ pub record Holds (numbers : List ℕ) (es : List Event) (boot : ℕ) (phandles :
   -- the used part: 40 zeros, the reservations and the bytes of the accepted calls, in order
   pub bytes : take (s .writer .«blob_used») (s .blob) ≡ zeros headerSize ++ (reservationBytes numbers ++ structureBytes (namesOf es) es)
   -- 56 plus 16 for each reservation plus the sizes of the accepted calls
-  pub used : s .writer .«blob_used» ≡ structureStart (count numbers) + sizes es
+  pub used : s .writer .«blob_used» ≡ structureStart (count numbers) + eventsSize es
   -- each name once, whole, in order of first accepted use
   pub names : take (s .writer .«strings_used») (s .strings) ≡ joined (namesOf es)
   pub names-used : s .writer .«strings_used» ≡ length (joined (namesOf es))
   pub marks : take (s .writer .«phandles_used») (s .phandles) ≡ phandles
   pub marks-used : s .writer .«phandles_used» ≡ length phandles
-  pub depth : s .writer .«node_depth» ≡ depthFrom 0 es
-  pub ended : s .writer .«node_ended» ≡ endedFrom false es
+  pub depth : s .writer .«node_depth» ≡ depthOf es
+  pub ended : s .writer .«node_ended» ≡ endedOf es
   pub boot-number : s .writer .«boot_cpuid_phys» ≡ boot
   pub reservations : s .writer .reservations ≡ count numbers
   -- usable lengths are those at opening

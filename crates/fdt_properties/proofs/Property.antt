@@ -2,14 +2,16 @@
 use mathlib.Core.Path.{_≡_, refl, ap, _∙_}
 use mathlib.Core.Bool.{Bool, false}
 use mathlib.Core.List.{List, [], _∷_, _++_}
-use Prim.Native.Nat.{ℕ, _+_, _≤_}
+use Prim.Native.Nat.{ℕ, _+_, _≤_, _<_}
 use native.Mathlib.Omega.{arith}
+use borrow.Author.Tests.{eqb-false}
 use lib.ListN.{length}
 use Rattle.fdt_bytes.specs.BigEndian.{cellBytes}
 use Rattle.fdt_bytes.specs.Padding.{padding, roundUp, zeros, padded}
 use Rattle.fdt_bytes.specs.Splice.{splice}
 use Rattle.fdt_bytes.proofs.BigEndian.{length-cells}
 use Rattle.fdt_bytes.proofs.Splice.{splice-three}
+use Rattle.fdt_names.specs.Names.{hasZero}
 use Rattle.fdt_format.specs.Tokens.{propertyToken, propertyBytes}
 use Rattle.fdt_values.specs.Value.{Value, valueBytes, misfitValue}
 use Rattle.fdt_record.specs.declared.Answer.the-variants.{Done}
@@ -51,6 +53,9 @@ module _ (w : Record) (lent : ℕ) (strings name : List ℕ) (v : Value) where
     pub blob : FitBlob w lent
     pub names : FitStrings w strings
     pub value : misfitValue v ≡ false
+    pub unended : w .«node_ended» ≡ false
+    pub inside : 0 < w .«node_depth»
+    pub plain : hasZero name ≡ false
     pub placed : isFull (placeOf w strings name) ≡ false
     pub room : w .«blob_used» + (12 + roundUp 4 (length (valueBytes v))) ≤ w .«blob_room»
 
@@ -64,6 +69,9 @@ module _ (w : Record) (lent : ℕ) (strings name : List ℕ) (v : Value) where
         blob = fit-blob w lent (n .1 .0);
         names = fit-strings w strings (n .1 .1 .0);
         value = m .0;
+        unended = m .1 .1 .0;
+        inside = let d = eqb-false (w .«node_depth») 0 (m .1 .1 .1 .0) in omega arith;
+        plain = m .1 .1 .1 .1 .0;
         placed = m .1 .1 .1 .1 .1 .1 .0;
         room = has-room w (12 + roundUp 4 (length (valueBytes v))) (m .1 .1 .1 .1 .1 .1 .1 .0);
       }
