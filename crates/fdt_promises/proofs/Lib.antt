@@ -1,4 +1,6 @@
 pub mod Composed
+pub mod Demands
+pub mod Described
 pub mod Desks
 pub mod Ended
 pub mod Growth

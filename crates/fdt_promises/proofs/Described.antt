@@ -1,0 +1,104 @@
+-- A run's description and its blob: what the desk holds at the end, the finish, and that the reading undoes it.
+use mathlib.Core.Path.{_≡_, refl, sym, ap, _∙_}
+use mathlib.Core.Bool.{false}
+use mathlib.Core.List.{List, [], _∷_}
+use mathlib.Core.Logic.{_↔_}
+use mathlib.Core.Option.{Option, some, Option·some-injective}
+use Prim.Native.Nat.{ℕ, _+_, _%_, _<_, _^_}
+use native.Mathlib.Omega.{arith}
+use lib.Dec.{lit<}
+use lib.ListN.{length}
+use Rattle.fdt_strings.specs.Entries.{joined}
+use Rattle.fdt_values.specs.Value.{Value, valueBytes}
+use Rattle.fdt_format.specs.Blob.{namesOf, structureBytes, eventsSize, blobFrom, blobOf, WellFormed}
+use Rattle.fdt_format.specs.Description.{_≔_, Nodes, Description}
+use Rattle.fdt_format.specs.Events.{Event, has, events, nodesOf}
+use Rattle.fdt_format.specs.Header.{structureStart}
+use Rattle.fdt_format.specs.Reading.{reading}
+use Rattle.fdt_format.proofs.ReadBack.{length-from, read-blob}
+use Rattle.fdt_format.proofs.Structure.{structure-size}
+use Rattle.fdt_record.specs.declared.Answer.the-variants.{Done}
+use Rattle.fdt_opening.specs.Opening.{count}
+use Rattle.fdt_opening.proofs.Opening.{OpeningFits, opened-fits}
+use Rattle.fdt_finish.proofs.Finishing.{finish-fits}
+use Rattle.fdt_promises.specs.Calls.{Request, to-open, to-have, to-finish, Desk, answer, after}
+use Rattle.fdt_promises.specs.Run.{recorded, tells, eventsOf, bootOf, Holds, reservationsOf, withNodes, describe, Run, allAsk, opened-desk, desk, history, description, Finishes, blob}
+use Rattle.fdt_promises.proofs.Ended.{count-paired, shown-bytes, nodes-told, well-formed}
+use Rattle.fdt_promises.proofs.Held.{Open}
+use Rattle.fdt_promises.proofs.Runs.{opened-open, runs-open, boot-small}
+
+-- the description of a run, which the format can hold, and its bytes
+record Told (r : Run) : Type 0 where
+  told : Description
+  is : description r ≡ some told
+  bytes : blob r ≡ blobOf told
+  fits : WellFormed told
+
+module _ (r : Run) where
+  -- a run that is not finished is open
+  run-open : desk r .writer .finished ≡ false → Open (r .numbers) (eventsOf (history r)) (bootOf (history r)) (recorded (allAsk (r .calls)) (opened-desk r)) (desk r)
+  unfolding desk history opened-desk bootOf
+  run-open u = runs-open (allAsk (r .calls)) (r .between) (opened-open (r .before) (r .numbers) (r .opened)) u
+
+  pub run-holds : desk r .writer .finished ≡ false → Holds (r .numbers) (eventsOf (history r)) (bootOf (history r)) (recorded (allAsk (r .calls)) (opened-desk r)) (desk r)
+  run-holds u = run-open u .holds
+
+  -- the numbers of its opening are pairs, each in order
+  opening-fits : OpeningFits (length (r .before .blob)) (r .numbers)
+  unfolding answer
+  opening-fits = opened-fits (length (r .before .blob)) (r .numbers) (r .opened)
+
+  boot-fits : bootOf (history r) < 2 ^ 32
+  unfolding history bootOf
+  boot-fits = boot-small (allAsk (r .calls)) (r .between) (opened-desk r) 0 (lit< tt)
+
+  module _ (f : Finishes r) where
+    -- at its end it is open
+    at-end : Open (r .numbers) (eventsOf (history r)) (bootOf (history r)) (recorded (allAsk (r .calls)) (opened-desk r)) (desk r)
+    unfolding Finishes answer
+    at-end = run-open (finish-fits (desk r .writer) (length (desk r .blob)) (desk r .strings) f .unmarked)
+
+    shown-from : blob r ≡ blobFrom (reservationsOf (r .numbers)) (bootOf (history r)) (eventsOf (history r))
+    unfolding Finishes blob
+    shown-from = shown-bytes at-end f (opening-fits .even)
+
+    run-told : Told r
+    unfolding Finishes description describe withNodes blobOf
+    run-told =
+        let n = nodes-told at-end f in
+        record {
+          told = record { reservations = reservationsOf (r .numbers); boot = bootOf (history r); nodes = n .0 };
+          is = ap (withNodes (reservationsOf (r .numbers)) (bootOf (history r))) (n .1);
+          bytes = shown-from ∙ ap (blobFrom (reservationsOf (r .numbers)) (bootOf (history r))) (sym (n .2));
+          fits = well-formed at-end f (opening-fits .even) (opening-fits .valid) boot-fits (n .0) (n .2);
+        }
+
+    pub run-shown : (d : Description) × (description r ≡ some d) × (blob r ≡ blobOf d)
+    run-shown = (run-told .told, run-told .is, run-told .bytes)
+
+    pub run-length : length (blob r) ≡ structureStart (count (r .numbers)) + eventsSize (eventsOf (history r)) + 4 + length (joined (namesOf (eventsOf (history r))))
+    run-length =
+        let es = eventsOf (history r) in
+        ap length shown-from ∙ length-from (reservationsOf (r .numbers)) (bootOf (history r)) es
+        ∙ ap (λ (n : ℕ). structureStart n + length (structureBytes (namesOf es) es) + 4 + length (joined (namesOf es))) (count-paired (r .numbers) (opening-fits .even))
+        ∙ ap (λ (n : ℕ). structureStart (count (r .numbers)) + n + 4 + length (joined (namesOf es))) (structure-size (namesOf es) es)
+
+    pub run-read : reading (blob r) ≡ description r
+    run-read = ap reading (run-told .bytes) ∙ read-blob (run-told .told) (run-told .fits) ∙ sym (run-told .is)
+
+module _ (r q : Run) where
+  pub same-runs : Finishes r → Finishes q → (blob r ≡ blob q) ↔ (description r ≡ description q)
+  same-runs f g =
+      let t = run-told r f in
+      let u = run-told q g in (
+        λ e. sym (run-read r f) ∙ ap reading e ∙ run-read q g,
+        λ e. t .bytes ∙ ap blobOf (Option·some-injective (t .told) (u .told) (sym (t .is) ∙ e ∙ u .is)) ∙ sym (u .bytes),
+      )
+
+  pub same-history : r .numbers ≡ q .numbers → history r ≡ history q → description r ≡ description q
+  unfolding description
+  same-history e f = ap (λ (n : List ℕ). describe n (history r)) e ∙ ap (describe (q .numbers)) f
+
+pub same-kinds : (name : List ℕ) (v u : Value) → valueBytes v ≡ valueBytes u → tells (to-have name v) ≡ tells (to-have name u)
+unfolding tells
+same-kinds name v u e = ap (λ (l : List ℕ). has (name ≔ l) ∷ []) e
