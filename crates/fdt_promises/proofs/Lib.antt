@@ -3,6 +3,7 @@ pub mod Demands
 pub mod Described
 pub mod Desks
 pub mod Ended
+pub mod Foreign
 pub mod Growth
 pub mod Held
 pub mod NeverGiven

@@ -1,4 +1,5 @@
 pub mod Calls
 pub mod Effects
+pub mod Foreign
 pub mod Run
 pub mod Starred
