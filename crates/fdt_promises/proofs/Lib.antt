@@ -12,5 +12,5 @@ pub mod OwnBytes
 pub mod PastUsable
 pub mod Runs
 pub mod Starred
-pub mod Unaltered
+pub mod Steps
 pub mod Usable
