@@ -1,6 +1,6 @@
 -- What is promised about the writer, in the user's words. This file is the one to open first: it states, and the proofs stand elsewhere.
 use mathlib.Core.Path.{_≡_, ap, sym, _∙_}
-use mathlib.Core.Bool.{false}
+use mathlib.Core.Bool.{true, false}
 use mathlib.Core.List.{List}
 use mathlib.Core.Logic.{_↔_}
 use mathlib.Core.Option.{Option, some}
@@ -8,17 +8,22 @@ use Prim.Native.Nat.{ℕ, _+_}
 use lib.ListN.{length}
 use Rattle.fdt_strings.specs.Entries.{joined}
 use Rattle.fdt_values.specs.Value.{Value, valueBytes}
-use Rattle.fdt_format.specs.Blob.{namesOf, eventsSize, blobOf}
+use Rattle.fdt_format.specs.Blob.{namesOf, eventsSize, blobOf, WellFormed}
 use Rattle.fdt_format.specs.Description.{Description}
 use Rattle.fdt_format.specs.Header.{structureStart}
 use Rattle.fdt_format.specs.Reading.{reading}
+use Rattle.fdt_format.proofs.ReadBack.{read-blob}
 use Rattle.fdt_format.proofs.Strings.{Distinct, names-once}
 use Rattle.fdt_record.specs.Answers.{accepts}
 use Rattle.fdt_opening.specs.Opening.{count}
 use Rattle.fdt_promises.specs.Calls.{Call, asks, to-have, Desk, answer, after, unaltered}
 use Rattle.fdt_promises.specs.Run.{recorded, tells, eventsOf, bootOf, Holds, Run, allAsk, opened-desk, desk, history, description, Finishes, blob}
+use Rattle.fdt_promises.specs.Foreign.{AllRead, foreign}
+use Rattle.fdt_promises.specs.Starred.{allHold, starred}
 use Rattle.fdt_promises.proofs.Desks.{refused-after}
 use Rattle.fdt_promises.proofs.Described.{run-holds, run-shown, run-length, run-read, same-runs, same-history, same-kinds}
+use Rattle.fdt_promises.proofs.Foreign.{foreign-read}
+use Rattle.fdt_promises.proofs.Starred.{starred-hold}
 
 -- Demand 1. Any call, with any arguments, over any record and buffers of any size: where it is refused it alters nothing,
 -- but for the one exception that `unaltered` names.
@@ -45,6 +50,10 @@ length-of-blob = run-length
 pub reading-returns : (r : Run) → Finishes r → reading (blob r) ≡ description r
 reading-returns = run-read
 
+-- And so of every description that the format can hold.
+pub reading-of-any : (d : Description) → WellFormed d → reading (blobOf d) ≡ some d
+reading-of-any = read-blob
+
 -- Demand 3. Two runs' blobs are the same bytes exactly when they describe the same thing.
 pub demand-3 : (r q : Run) → Finishes r → Finishes q → (blob r ≡ blob q) ↔ (description r ≡ description q)
 demand-3 = same-runs
@@ -57,3 +66,10 @@ accepted-calls-alone = same-history
 -- Nor does the kind of the call that wrote the same bytes.
 pub kind-makes-no-difference : (name : List ℕ) (v u : Value) → valueBytes v ≡ valueBytes u → tells (to-have name v) ≡ tells (to-have name u)
 kind-makes-no-difference = same-kinds
+
+-- Document 01's starred cases, one table; and blobs of others, read or refused as its reading says.
+pub starred-cases : allHold starred ≡ true
+starred-cases = starred-hold
+
+pub foreign-blobs : AllRead foreign
+foreign-blobs = foreign-read
