@@ -4,7 +4,6 @@ use mathlib.Core.List.{List}
 use Prim.Native.Nat.{ℕ}
 use Rattle.fdt_record.specs.declared.Record.{Record}
 use Rattle.fdt_record.specs.Answers.{accepts}
-use Rattle.fdt_record.specs.Misfits.{misfitBlob, misfitStrings}
 use Rattle.fdt_record.specs.Tests.{aloneRows, blobRows, stringsRows}
 use Rattle.fdt_record.proofs.Rows.{Refusals, refusals-more}
 
@@ -14,8 +13,8 @@ alone-refusals w = (refl, (refl, tt))
 
 pub blob-refusals : (w : Record) (lent : ℕ) → Refusals (blobRows w lent)
 unfolding blobRows
-blob-refusals w lent = refusals-more (aloneRows w) (alone-refusals w) (misfitBlob w lent)
+blob-refusals w lent = refusals-more (aloneRows w) (alone-refusals w) _
 
 pub strings-refusals : (w : Record) (lent : ℕ) (strings : List ℕ) → Refusals (stringsRows w lent strings)
 unfolding stringsRows
-strings-refusals w lent strings = refusals-more (blobRows w lent) (blob-refusals w lent) (misfitStrings w strings)
+strings-refusals w lent strings = refusals-more (blobRows w lent) (blob-refusals w lent) _
