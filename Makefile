@@ -1,9 +1,10 @@
 # `make test` is the merge gate. tools/test has its steps.
 
-.PHONY: help test steps
+.PHONY: help test steps compare
 
 help:
 	@echo 'make test                the merge gate: its last line is N passed, 0 failed'
+	@echo 'make compare SEEDS=20    fdt_replay against the original crate, on so many random lists and every short input'
 	@echo 'tools/promises           that what docs/PROMISES.md cites is there, and what is not yet shown'
 	@echo 'tools/moved OLD NEW      what moved between two git revisions'
 	@echo 'tools/check-time [LOG]   how long rt ci takes, crate by crate'
@@ -15,3 +16,7 @@ test: steps
 steps:
 	@rm -f build/failed
 	@tools/test build/failed || test -s build/failed
+
+# Against the original crate: so many seeds, or FIRST-LAST.
+compare:
+	@tools/compare $(SEEDS)

@@ -1,0 +1,873 @@
+// Call lists: random ones from a seed, in blocks of several kinds, and every short input of a small set.
+// The model is run along, so that a block knows where it stands: few calls go to closed writers, and rooms are met exactly.
+use crate::list::{line, prepare, Step};
+use crate::model::{Call, Model, Value};
+
+// The longest list that fdt_replay reads.
+const LONGEST: usize = 1_048_575;
+
+// Random numbers (splitmix64).
+struct Rng(u64);
+
+impl Rng {
+    fn next(&mut self) -> u64 {
+        self.0 = self.0.wrapping_add(0x9e37_79b9_7f4a_7c15);
+        let z = (self.0 ^ (self.0 >> 30)).wrapping_mul(0xbf58_476d_1ce4_e5b9);
+        let z = (z ^ (z >> 27)).wrapping_mul(0x94d0_49bb_1331_11eb);
+        z ^ (z >> 31)
+    }
+
+    fn below(&mut self, n: u64) -> u64 {
+        self.next() % n
+    }
+
+    // True once in n times.
+    fn once_in(&mut self, n: u64) -> bool {
+        self.below(n) == 0
+    }
+
+    fn of<T: Clone>(&mut self, all: &[T]) -> T {
+        all[self.below(all.len() as u64) as usize].clone()
+    }
+}
+
+// A list so far, and where the model stands after it.
+struct Lines {
+    text: String,
+    m: Model,
+}
+
+impl Lines {
+    fn new() -> Lines {
+        let mut l = Lines { text: String::new(), m: Model::new() };
+        l.step(Step::Quiet);
+        l
+    }
+
+    fn step(&mut self, step: Step) {
+        self.text.push_str(&line(&step));
+        self.text.push('\n');
+        prepare(&mut self.m, &step);
+    }
+
+    // Makes a call, and tells its answer.
+    fn call(&mut self, call: Call) -> u32 {
+        let number = self.m.call(&call).number;
+        self.step(Step::Make(call));
+        number
+    }
+
+    fn set(&mut self, field: &str, n: u64) {
+        self.step(Step::Set(field.to_string(), n));
+    }
+
+    fn lend(&mut self, lent: [usize; 3]) {
+        self.step(Step::Lend(lent.map(|n| n as u64)));
+    }
+
+    // Ends every node, finishes and shows.
+    fn close(&mut self) {
+        while self.m.record.node_depth > 0 && self.call(Call::EndNode(self.m.record.node_depth)) == 0 {}
+        self.call(Call::Finish);
+        self.step(Step::Show);
+    }
+}
+
+// ---- names and values
+
+const NODE_CLASS: &[u8] = b"abcxyzABCXYZ0189,._+-";
+const PROPERTY_CLASS: &[u8] = b"abcxyzABCXYZ0189,._+?#-";
+// Bytes beside the classes, and those that the format spells in its own way.
+const EDGES: &[u8] = &[
+    0, 1, b' ', b'!', b'"', b'$', b'*', b'/', b':', b';', b'<', b'>', b'?', b'#', b'@', b'[', b'\\', b']', b'^', b'`',
+    b'{', b'|', b'}', b'~', 0x7f, 0x80, 0xc3, 0xff,
+];
+const NAMES: &[&str] = &[
+    "reg",
+    "#size-cells",
+    "size-cells",
+    "cells",
+    "s",
+    "compatible",
+    "phandle",
+    "status",
+    "#address-cells",
+    "address-cells",
+    "device_type",
+    "model",
+    "ranges",
+    "interrupts",
+    "phandl",
+    "handle",
+    "a",
+    "b",
+    "?",
+    "0",
+];
+
+fn some(r: &mut Rng, class: &[u8], n: u64) -> Vec<u8> {
+    (0..n).map(|_| r.of(class)).collect()
+}
+
+// A name with one byte put in or changed to one beside the classes.
+fn spoiled(r: &mut Rng, mut name: Vec<u8>) -> Vec<u8> {
+    let at = r.below(name.len() as u64 + 1) as usize;
+    let b = if r.once_in(4) { 0 } else { r.of(EDGES) };
+    if at == name.len() || r.once_in(2) {
+        name.insert(at, b)
+    } else {
+        name[at] = b
+    }
+    name
+}
+
+fn good_node_name(r: &mut Rng) -> Vec<u8> {
+    match r.below(6) {
+        0 => Vec::new(),
+        1 => format!("cpu@{:x}", r.below(300)).into_bytes(),
+        _ => {
+            let n = r.below(6);
+            [vec![r.of(b"anzAZ")], some(r, NODE_CLASS, n)].concat()
+        }
+    }
+}
+
+fn node_name(r: &mut Rng) -> Vec<u8> {
+    match r.below(40) {
+        0 | 1 => {
+            let n = r.of(&[29, 30, 31, 32]);
+            [vec![r.of(b"azAZ")], some(r, NODE_CLASS, n)].concat()
+        }
+        2 | 3 => {
+            let (n, unit) = (r.of(&[0, 1, 28, 29, 30, 31]), r.of(&[0, 1, 2, 30, 31, 40]));
+            [vec![r.of(b"azAZ")], some(r, NODE_CLASS, n), b"@".to_vec(), some(r, NODE_CLASS, unit)].concat()
+        }
+        4 => {
+            let n = r.below(4);
+            [some(r, b"0189,._+-@", 1), some(r, NODE_CLASS, n)].concat()
+        }
+        5 => r.of(&["a@1@2", "a@@", "@", "a@1@", "1a", "@1", "a@", "a\0", "A@-", "a@?", "a#"]).into(),
+        6 => r.of(&["é", "aé", "a@é", "é@1", "ab\u{0}c", "Ⅷ", "a²"]).as_bytes().to_vec(),
+        7 => {
+            let n = r.below(5);
+            (0..n).map(|_| r.next() as u8).collect()
+        }
+        8 | 9 => {
+            let name = good_node_name(r);
+            spoiled(r, name)
+        }
+        _ => good_node_name(r),
+    }
+}
+
+fn good_property_name(r: &mut Rng) -> Vec<u8> {
+    if r.once_in(4) {
+        let n = 1 + r.below(4);
+        some(r, PROPERTY_CLASS, n)
+    } else {
+        r.of(NAMES).into()
+    }
+}
+
+fn property_name(r: &mut Rng) -> Vec<u8> {
+    match r.below(40) {
+        0 | 1 => {
+            let n = r.of(&[29, 30, 31, 32, 33]);
+            some(r, PROPERTY_CLASS, n)
+        }
+        2 => Vec::new(),
+        3 => r.of(&["a@", "a b", "é", "aé", "a/b", "@", "a\0", "\0", "²"]).into(),
+        4 => {
+            let n = r.below(5);
+            (0..n).map(|_| r.next() as u8).collect()
+        }
+        5 | 6 => {
+            let name = good_property_name(r);
+            spoiled(r, name)
+        }
+        _ => good_property_name(r),
+    }
+}
+
+// A number at a corner, or any.
+fn number(r: &mut Rng) -> u64 {
+    match r.below(4) {
+        0 => r.of(&[0, 1, 255, 256, 1 << 31, (1 << 32) - 1, 1 << 32, (1 << 32) + 7, 1 << 63, u64::MAX]),
+        1 => r.next() >> r.below(64),
+        _ => r.below(100),
+    }
+}
+
+fn length(r: &mut Rng) -> u64 {
+    match r.below(200) {
+        0 => r.of(&[255, 256, 257, 400]),
+        1..=9 => r.below(64),
+        _ => r.below(10),
+    }
+}
+
+// Bytes of a value: mostly such as stand for themselves in a list.
+fn bytes(r: &mut Rng, n: u64) -> Vec<u8> {
+    (0..n).map(|_| if r.once_in(8) { r.next() as u8 } else { r.of(b"abc019-\0") }).collect()
+}
+
+// Bytes of a string: no 0 but sometimes, and sometimes none that is text.
+fn string(r: &mut Rng, n: u64) -> Vec<u8> {
+    let mut s = some(r, b"abcdefg 0123=/", n);
+    match r.below(16) {
+        0 => s.insert(r.below(n + 1) as usize, 0),
+        1 => s.insert(r.below(n + 1) as usize, r.of(&[0x80, 0xff, 0xc3])),
+        2 => s.extend("é".bytes()),
+        _ => {}
+    }
+    s
+}
+
+fn strings(r: &mut Rng) -> Value {
+    let parts: Vec<Vec<u8>> = (0..r.below(5))
+        .map(|_| {
+            let n = r.below(4) * r.below(4);
+            string(r, n)
+        })
+        .collect();
+    let mut lengths: Vec<u64> = parts.iter().map(|p| p.len() as u64).collect();
+    match r.below(24) {
+        0 => lengths.push(r.of(&[1, 1 << 32, u64::MAX])),
+        1 => {
+            lengths.pop();
+        }
+        2 => lengths.extend([1 << 63, 1 << 63]),
+        3 => lengths.extend([u64::MAX, 1]),
+        4 => {
+            if let Some(n) = lengths.first_mut() {
+                *n = n.wrapping_sub(1)
+            }
+        }
+        _ => {}
+    }
+    Value::Texts(parts.concat(), lengths)
+}
+
+// ---- calls
+
+// What a call can be, so that each can be asked for.
+const KINDS: u64 = 13;
+const BEGIN: u64 = 0;
+const END: u64 = 1;
+const FINISH: u64 = 2;
+const BOOT: u64 = 3;
+const PHANDLE: u64 = 4;
+
+fn value(r: &mut Rng, kind: u64) -> Value {
+    match kind {
+        5 => {
+            let n = length(r);
+            Value::Bytes(bytes(r, n))
+        }
+        6 => Value::Null,
+        7 => {
+            let n = length(r);
+            Value::Text(string(r, n))
+        }
+        8 => strings(r),
+        9 => Value::U32(number(r) as u32),
+        10 => Value::U64(number(r)),
+        11 => Value::U32s((0..r.below(4) * r.below(3)).map(|_| number(r) as u32).collect()),
+        _ => Value::U64s((0..r.below(4) * r.below(3)).map(|_| number(r)).collect()),
+    }
+}
+
+fn handle(r: &mut Rng, depth: u64) -> u64 {
+    match r.below(24) {
+        0 => 0,
+        1 => depth + 1,
+        2 => depth.wrapping_sub(1),
+        3 => 1 + r.below(64),
+        4 => r.of(&[64, 65, 256 + depth, (1 << 32) + depth, (1 << 63) + depth, u64::MAX]),
+        _ => depth,
+    }
+}
+
+// A call of a kind, mostly one that would be taken.
+fn call_of(r: &mut Rng, kind: u64, depth: u64) -> Call {
+    match kind {
+        BEGIN => Call::BeginNode(node_name(r)),
+        END => Call::EndNode(handle(r, depth)),
+        FINISH => Call::Finish,
+        BOOT => Call::SetBootCpuidPhys(number(r) as u32),
+        PHANDLE => Call::PropertyPhandle(if r.once_in(20) { number(r) as u32 } else { r.below(60) as u32 }),
+        _ => Call::Property(property_name(r), value(r, kind)),
+    }
+}
+
+// A call as it comes in a run: more properties than nodes, few that end it.
+fn any_call(r: &mut Rng, m: &Model) -> Call {
+    let (depth, ended) = (m.record.node_depth, m.record.node_ended);
+    let kind = match r.below(100) {
+        0 => BOOT,
+        1..=2 => {
+            if depth == 0 && !r.once_in(8) {
+                BEGIN
+            } else {
+                FINISH
+            }
+        }
+        3..=7 => PHANDLE,
+        8..=16 => BEGIN,
+        17..=25 => {
+            if depth == 0 && !r.once_in(6) {
+                BEGIN
+            } else {
+                END
+            }
+        }
+        _ if (depth == 0 || ended) && !r.once_in(5) => r.of(&[BEGIN, BEGIN, BEGIN, END]),
+        _ => 5 + r.below(KINDS - 5),
+    };
+    call_of(r, kind, depth)
+}
+
+// Reservations that are apart from each other, in any order.
+fn apart(r: &mut Rng, n: u64) -> Vec<(u64, u64)> {
+    let mut at = r.of(&[0, 1, 4096, 1 << 40, u64::MAX - 2 * n - 2]);
+    let wide = at < 1 << 62;
+    let mut all: Vec<_> = (0..n)
+        .map(|_| {
+            let size = if wide { 1 + r.below(3) * r.below(9000) } else { 1 };
+            let start = at;
+            at += size + if wide { r.below(2) * r.below(5000) } else { r.below(2) };
+            (start, size)
+        })
+        .collect();
+    for i in (1..all.len()).rev() {
+        if !r.once_in(3) {
+            all.swap(i, r.below(i as u64 + 1) as usize)
+        }
+    }
+    all
+}
+
+// A reservation like one of those that are there: equal, nested, touching, or over its edge.
+fn near(r: &mut Rng, of: (u64, u64)) -> (u64, u64) {
+    let (a, s) = of;
+    r.of(&[
+        (a, s),
+        (a, 1),
+        (a.wrapping_add(s), 1),
+        (a.wrapping_add(s).wrapping_sub(1), 1),
+        (a.wrapping_sub(1), 1),
+        (a.wrapping_sub(1), 2),
+        (a.wrapping_sub(1), s.wrapping_add(2)),
+        (a / 2, a - a / 2),
+        (a / 2, a - a / 2 + 1),
+        (a, 0),
+        (a, u64::MAX - a),
+        (a, (u64::MAX - a).wrapping_add(1)),
+        (u64::MAX, 1),
+        (u64::MAX - 1, 1),
+        (u64::MAX, u64::MAX),
+        (0, u64::MAX),
+        (1, u64::MAX),
+    ])
+}
+
+fn opening(r: &mut Rng) -> Call {
+    if r.once_in(3) {
+        return Call::New;
+    }
+    let n = match r.below(40) {
+        0 => r.of(&[63, 64, 65, 66]),
+        1 => r.below(30),
+        _ => r.below(4),
+    };
+    let mut all = apart(r, n);
+    if n > 0 && r.once_in(4) {
+        let (one, at) = (r.of(&all), r.below(n) as usize);
+        let other = near(r, one);
+        if r.once_in(3) {
+            all[at] = other
+        } else {
+            all.insert(at, other)
+        }
+    }
+    let mut numbers: Vec<u64> = all.into_iter().flat_map(|(a, s)| [a, s]).collect();
+    if r.once_in(40) {
+        numbers.push(r.below(3))
+    }
+    Call::NewWithMemReserv(numbers)
+}
+
+// ---- blocks
+
+// Marked buffers and an opening; whether it was taken.
+fn opened(r: &mut Rng, l: &mut Lines, lent: [u64; 3], call: Call) -> bool {
+    l.step(Step::Buffers(lent));
+    let taken = l.call(call) == 0;
+    if !taken && r.once_in(4) {
+        let kind = r.below(KINDS);
+        l.call(call_of(r, kind, 0));
+    }
+    taken
+}
+
+// The end of a block: closed and shown, sometimes with a call after it, and a look past what was lent.
+fn ending(r: &mut Rng, l: &mut Lines) {
+    if r.once_in(5) {
+        l.step(Step::Show)
+    }
+    if !r.once_in(6) {
+        l.close()
+    }
+    if l.m.record.finished && r.once_in(3) {
+        let kind = r.below(KINDS);
+        l.call(call_of(r, kind, 0));
+    }
+    if r.once_in(3) {
+        l.lend(l.m.lent.map(|n| n + 64));
+        l.call(Call::SetBootCpuidPhys(7));
+        l.step(Step::Show);
+    }
+}
+
+// A run with room enough.
+fn plain(r: &mut Rng, l: &mut Lines) {
+    let lent = [300 + r.below(1500), 60 + r.below(300), 1 + r.below(40)];
+    let open = opening(r);
+    if !opened(r, l, lent, open) {
+        return;
+    }
+    for _ in 0..r.below(90) {
+        if l.m.record.finished {
+            break;
+        }
+        let call = any_call(r, &l.m);
+        l.call(call);
+    }
+    ending(r, l);
+}
+
+// Down to depth 64 and beyond, and up again.
+fn deep(r: &mut Rng, l: &mut Lines) {
+    if !opened(r, l, [1400, 100, 8], Call::New) {
+        return;
+    }
+    let goal = r.of(&[62, 63, 64, 64, 64]);
+    while l.m.record.node_depth < goal {
+        let name = r.of(&["", "a", "n@1"]);
+        l.call(Call::BeginNode(name.into()));
+    }
+    for _ in 0..12 {
+        let kind = r.of(&[BEGIN, BEGIN, BEGIN, END, 6, 9, FINISH]);
+        let depth = l.m.record.node_depth;
+        l.call(call_of(r, kind, depth));
+    }
+    ending(r, l);
+}
+
+// Brings a run to where a call of a kind would be taken.
+fn ready(m: &mut Model, calls: &mut Vec<Call>, kind: u64) {
+    let mut make = |m: &mut Model, call: Call| {
+        m.call(&call);
+        calls.push(call);
+    };
+    if kind == FINISH {
+        while m.record.node_depth > 0 {
+            let depth = m.record.node_depth;
+            make(m, Call::EndNode(depth))
+        }
+    } else if kind >= PHANDLE && (m.record.node_depth == 0 || m.record.node_ended)
+        || kind == END && m.record.node_depth == 0
+    {
+        make(m, Call::BeginNode(b"a".to_vec()));
+    }
+}
+
+// A call of a kind that is taken, if a few tries find one.
+fn taken(r: &mut Rng, m: &Model, kind: u64) -> Option<(Call, Model)> {
+    (0..6).find_map(|_| {
+        let (call, mut after) = (call_of(r, kind, m.record.node_depth), m.clone());
+        (after.call(&call).number == 0).then_some((call, after))
+    })
+}
+
+// A run whose buffers are just filled by its last call, or too short for it by a little.
+fn tight(r: &mut Rng, l: &mut Lines) {
+    let mut m = Model::new();
+    m.lent = [65_536, 8_192, 256];
+    let open = opening(r);
+    let mut calls = Vec::new();
+    if m.call(&open).number == 0 && !r.once_in(12) {
+        let kind = r.of(&[BEGIN, END, FINISH, PHANDLE, 5, 6, 7, 8, 9, 10, 11, 12]);
+        for _ in 0..r.below(12) {
+            let call = any_call(r, &m);
+            if call != Call::Finish {
+                m.call(&call);
+                calls.push(call)
+            }
+        }
+        ready(&mut m, &mut calls, kind);
+        let before = m.record;
+        let Some((call, after)) = taken(r, &m, kind) else { return };
+        calls.push(call);
+        m = after;
+        if m.record.strings_used > before.strings_used && r.once_in(2) {
+            let lent = [
+                m.record.blob_used + r.below(60),
+                m.record.strings_used - r.of(&[0, 0, 1, 1, 1, 2, 4]),
+                8 + r.below(8),
+            ];
+            return filled(r, l, lent, open, calls);
+        }
+    } else if m.record.finished {
+        m.record.blob_used = 56
+    }
+    let short = r.of(&[0, 0, 0, 1, 1, 1, 2, 3, 4, 8]);
+    let lent = [m.record.blob_used - short, m.record.strings_used + r.below(20), m.record.phandles_used + r.below(2)];
+    filled(r, l, lent, open, calls);
+}
+
+// Runs such calls over such buffers, and goes on a little.
+fn filled(r: &mut Rng, l: &mut Lines, lent: [u64; 3], open: Call, calls: Vec<Call>) {
+    if !opened(r, l, lent, open) {
+        return;
+    }
+    for call in calls {
+        l.call(call);
+    }
+    for _ in 0..r.below(6) {
+        if l.m.record.finished {
+            break;
+        }
+        let call = any_call(r, &l.m);
+        l.call(call);
+    }
+    ending(r, l);
+}
+
+// One reason for a misfit, brought about in a run that goes well.
+fn break_one(r: &mut Rng, l: &mut Lines) {
+    let (rec, lent) = (l.m.record, l.m.lent);
+    let above = |usable: u64, extra: u64| usable.div_ceil(4) * 4 + 4 * extra;
+    match r.below(13) {
+        0 => l.set("node_depth", r.of(&[65, 66, 128, 1 << 32, (1 << 32) + 3, u64::MAX])),
+        1 => {
+            // so many that the structure still could begin there
+            l.set("reservations", r.of(&[65, 66]));
+            if rec.blob_room >= 1112 {
+                l.set("blob_used", 1112)
+            }
+        }
+        2 => l.set("reservations", r.of(&[65, 1 << 60, (1 << 60) + 1, u64::MAX])),
+        3 => l.lend([r.of(&[lent[0] + 1, lent[0] + 4, lent[0] - 1, rec.blob_used as usize, 0]), lent[1], lent[2]]),
+        4 => l.set(
+            "blob_used",
+            r.of(&[above(rec.blob_room, 0).max(rec.blob_room + 1), above(rec.blob_room, 1), 1 << 32, u64::MAX - 3]),
+        ),
+        5 => l.set("blob_used", rec.blob_used - r.of(&[1, 2, 3])),
+        6 => l.set("blob_used", r.of(&[52 + 16 * rec.reservations, 0, 40])),
+        7 => l.lend([lent[0], r.of(&[lent[1] + 1, lent[1] - 1, rec.strings_used as usize, lent[1] + 7]), lent[2]]),
+        8 => l.set("strings_used", r.of(&[rec.strings_room + 1, rec.strings_room + 9, 1 << 32, u64::MAX])),
+        9 if rec.strings_used > 0 => l.step(Step::PutStrings(rec.strings_used - 1, vec![r.of(&[1, b'a', 0xff])])),
+        10 => l.lend([lent[0], lent[1], r.of(&[lent[2] + 1, lent[2] - 1, 0])]),
+        11 => l.set("phandles_used", r.of(&[rec.phandles_room + 1, rec.phandles_room + 2, 1 << 32, u64::MAX])),
+        // two reasons, or one in a place that the call is not lent
+        12 => {
+            l.set("blob_room", rec.blob_room + 1);
+            if r.once_in(2) {
+                l.set("strings_room", rec.strings_room - 1)
+            }
+        }
+        _ => l.set("strings_used", rec.strings_used + 1),
+    }
+    if r.once_in(10) {
+        l.set("finished", 1)
+    }
+}
+
+// Gives back the record and the buffers as they were.
+fn mend(l: &mut Lines, was: &Model) {
+    for (k, field) in crate::model::FIELDS.iter().enumerate() {
+        if l.m.record.apart()[k] != was.record.apart()[k] {
+            l.set(field, was.record.apart()[k])
+        }
+    }
+    if l.m.lent != was.lent {
+        l.lend(was.lent)
+    }
+    for (at, &b) in was.strings.iter().enumerate() {
+        if l.m.strings[at] != b {
+            l.step(Step::PutStrings(at as u64, vec![b]))
+        }
+    }
+}
+
+// A run in which the record and what is lent are broken in one place before a call, and mended after it.
+fn broken(r: &mut Rng, l: &mut Lines) {
+    let lent = if r.once_in(3) {
+        [1200 + r.below(200), 80 + r.below(50), 2 + r.below(9)]
+    } else {
+        [300 + r.below(300), 60 + r.below(50), 2 + r.below(9)]
+    };
+    let open = if r.once_in(2) { Call::New } else { Call::NewWithMemReserv(vec![4096, 1, 0, 1]) };
+    if !opened(r, l, lent, open) {
+        return;
+    }
+    l.call(Call::BeginNode(b"a".to_vec()));
+    l.call(Call::Property(b"reg".to_vec(), Value::U32(1)));
+    for _ in 0..14 {
+        let was = l.m.clone();
+        break_one(r, l);
+        let (kind, depth) = (r.below(KINDS), l.m.record.node_depth);
+        let before = l.m.clone();
+        l.call(call_of(r, kind, depth));
+        if r.once_in(8) {
+            l.step(Step::Show)
+        }
+        // where the call was taken all the same, the block ends: its bytes are written
+        if l.m.blob != before.blob || l.m.phandles != before.phandles || l.m.strings != before.strings {
+            break;
+        }
+        mend(l, &was);
+        if r.once_in(4) {
+            let call = any_call(r, &l.m);
+            if call != Call::Finish {
+                l.call(call);
+            }
+        }
+    }
+    ending(r, l);
+}
+
+// A number for a field: near what would fit, or any.
+fn field(r: &mut Rng, fits: u64) -> u64 {
+    match r.below(10) {
+        0 => number(r),
+        1 => fits.wrapping_add(r.below(5)).wrapping_sub(2),
+        2 => fits.wrapping_add(4),
+        3 => r.of(&[0, 1, 56, 60, 64, 65, 72, 1 << 32, 1 << 60, u64::MAX - 3]),
+        _ => fits,
+    }
+}
+
+// Strings as someone else might have left them: entries twice, empty, unended, tails of others.
+fn foreign_strings(r: &mut Rng) -> Vec<u8> {
+    let mut all = Vec::new();
+    for _ in 0..r.below(6) {
+        all.extend(
+            r.of(&["reg", "reg", "cells", "#size-cells", "size-cells", "", "phandle", "xphandle", "s", "status", "é"])
+                .as_bytes(),
+        );
+        if !r.once_in(12) {
+            all.push(0)
+        }
+    }
+    all
+}
+
+// A record and buffers of any kind, and a few calls.
+fn foreign(r: &mut Rng, l: &mut Lines) {
+    let lent = [r.of(&[60, 64, 72, 100, 128, 160, 300, 1]) + r.below(3), r.below(60), r.below(6)];
+    l.step(Step::Buffers(lent));
+    for _ in 0..1 + r.below(3) {
+        let strings = foreign_strings(r);
+        let used = strings.len() as u64;
+        l.step(Step::PutStrings(0, strings));
+        if r.once_in(2) {
+            let n = r.below(40);
+            let b = bytes(r, n);
+            l.step(Step::PutBlob(r.below(100), b))
+        }
+        let table = (0..r.below(5)).map(|_| r.below(8) as u32).collect::<Vec<_>>();
+        let count = table.len() as u64;
+        l.step(Step::PutPhandles(0, table));
+        let (usable, n) = ([0, 1, 2].map(|k| l.m.usable(k)), r.of(&[0, 0, 0, 1, 2]));
+        let room = r
+            .of(&[56 + 16 * n, 60 + 16 * n, 100, usable[0] / 4 * 4, usable[0].saturating_sub(16) / 4 * 4])
+            .min(usable[0] / 4 * 4);
+        let fits =
+            [usable[0], room, usable[1], used.min(usable[1]), usable[2], count.min(usable[2]), n, r.below(66), 5];
+        for (k, name) in crate::model::FIELDS.iter().take(9).enumerate() {
+            let n = field(r, fits[k]);
+            l.set(name, n);
+        }
+        l.set("node_ended", r.below(4) / 3);
+        l.set("finished", r.below(12) / 11);
+        for _ in 0..1 + r.below(6) {
+            let (kind, depth) = (r.below(KINDS), l.m.record.node_depth);
+            l.call(call_of(r, kind, depth));
+            if r.once_in(4) {
+                l.step(Step::Show)
+            }
+        }
+    }
+    if r.once_in(3) {
+        l.lend([400, 100, 20]);
+        l.call(Call::Finish);
+        l.step(Step::Show);
+    }
+}
+
+// Names that fill the strings at their ceiling, or one byte short of it.
+fn many_names(r: &mut Rng, l: &mut Lines) {
+    let lent = [6_000, r.of(&[8_191, 8_192, 8_193, 8_256]), 4];
+    if !opened(r, l, lent, Call::New) {
+        return;
+    }
+    l.call(Call::BeginNode(Vec::new()));
+    for k in 0..258 {
+        l.call(Call::Property(format!("{:-<31}", format!("n{k}")).into_bytes(), Value::Null));
+    }
+    l.call(Call::Property(b"n0".to_vec(), Value::Null));
+    ending(r, l);
+}
+
+// Phandles that fill the table at its ceiling, or one entry short of it.
+fn many_phandles(r: &mut Rng, l: &mut Lines) {
+    let lent = [4_500, 16, r.of(&[255, 256, 257, 320])];
+    if !opened(r, l, lent, Call::New) {
+        return;
+    }
+    l.call(Call::BeginNode(Vec::new()));
+    for k in 0..258 {
+        l.call(Call::PropertyPhandle(k));
+    }
+    l.call(Call::PropertyPhandle(3));
+    ending(r, l);
+}
+
+// Long values, up to the blob's ceiling and a few bytes around it.
+fn long_values(r: &mut Rng, l: &mut Lines) {
+    let lent = [r.of(&[65_535, 65_536, 65_537, 65_540, 65_600]), 64, 4];
+    if !opened(r, l, lent, Call::New) {
+        return;
+    }
+    l.call(Call::BeginNode(Vec::new()));
+    let n = 1000 + r.below(3000);
+    let long = bytes(r, n);
+    l.call(Call::Property(b"long".to_vec(), Value::Bytes(long)));
+    let n = 1000 + r.below(2000);
+    let long = some(r, b"abc", n);
+    l.call(Call::Property(b"text".to_vec(), Value::Text(long)));
+    while l.m.record.blob_used + 8_300 < 65_536 {
+        let ns: Vec<u64> = (0..1_024).map(|_| r.below(10)).collect();
+        let value = if r.once_in(3) { Value::U32s(ns.iter().map(|&n| n as u32).collect()) } else { Value::U64s(ns) };
+        l.call(Call::Property(b"cells".to_vec(), value));
+    }
+    // the end of the node, the last word and three names have to fit as well
+    let left = 65_536 - l.m.record.blob_used - 12 - 4 - 4 - l.m.record.strings_used;
+    let n = left + r.of(&[0, 0, 1, 4, 12, 16, 32]) - 8 * (left / 8);
+    l.call(Call::Property(b"cells".to_vec(), Value::U64s(vec![0; (left / 8) as usize - 2])));
+    l.call(Call::Property(b"text".to_vec(), Value::Bytes(vec![b'x'; n as usize])));
+    ending(r, l);
+}
+
+// A random list of about so many bytes: large blocks first, then small ones of every kind.
+pub fn random(seed: u64, bytes: usize) -> String {
+    let (mut r, mut l) = (Rng(seed), Lines::new());
+    if bytes >= 500_000 {
+        many_names(&mut r, &mut l);
+        many_phandles(&mut r, &mut l);
+        long_values(&mut r, &mut l);
+    }
+    while l.text.len() < bytes.min(LONGEST - 40_000) {
+        match r.below(40) {
+            0 => deep(&mut r, &mut l),
+            1..=14 => plain(&mut r, &mut l),
+            15..=24 => tight(&mut r, &mut l),
+            25..=32 => broken(&mut r, &mut l),
+            _ => foreign(&mut r, &mut l),
+        }
+    }
+    l.text
+}
+
+// ---- every short input
+
+// Every name of up to so many bytes.
+fn all_names(alphabet: &[u8], most: usize) -> Vec<Vec<u8>> {
+    let (mut all, mut last) = (vec![Vec::new()], vec![Vec::new()]);
+    for _ in 0..most {
+        last = last.iter().flat_map(|n: &Vec<u8>| alphabet.iter().map(move |&b| [&n[..], &[b]].concat())).collect();
+        all.extend(last.clone());
+    }
+    all
+}
+
+// Every byte alone, every name of up to 2 bytes over a small alphabet and of up to 4 over a smaller one:
+// begun and ended, and as a property.
+pub fn names() -> String {
+    let mut l = Lines::new();
+    let mut all: Vec<_> = (0..=255).map(|b| vec![b]).collect();
+    all.extend(all_names(b"\0az AZ09,._+-?#@/:[`{!~\\\x7f\x80\xc3\xa9\xff", 2));
+    all.extend(all_names(b"a0@-\0?", 4));
+    for some in all.chunks(40) {
+        l.step(Step::Buffers([2_000, 400, 1]));
+        l.call(Call::New);
+        for name in some {
+            if l.call(Call::BeginNode(name.clone())) == 0 {
+                l.call(Call::EndNode(1));
+            }
+        }
+        l.call(Call::BeginNode(Vec::new()));
+        for name in some {
+            l.call(Call::Property(name.clone(), Value::Null));
+        }
+        l.close();
+    }
+    l.text
+}
+
+// The small set: with it every state of depth 0 to 5, ended or not, is reached from every other.
+fn small_set() -> Vec<Call> {
+    vec![
+        Call::BeginNode(b"a".to_vec()),
+        Call::EndNode(1),
+        Call::EndNode(2),
+        Call::Property(b"p".to_vec(), Value::Null),
+        Call::PropertyPhandle(7),
+        Call::Finish,
+        Call::Property(b"q".to_vec(), Value::U32(1)),
+    ]
+}
+
+// A row of five calls of the set, by its number, up to the first that a closed writer refuses;
+// nothing where a row of a lower number is then the same.
+fn row(set: &[Call], mut left: u64, lent: [usize; 3]) -> Vec<Call> {
+    let (mut m, mut calls) = (Model::new(), Vec::new());
+    m.lent = lent;
+    m.call(&Call::New);
+    for _ in 0..5 {
+        calls.push(set[(left % set.len() as u64) as usize].clone());
+        left /= set.len() as u64;
+        if m.call(&calls[calls.len() - 1]).number == 18 {
+            return if left == 0 { calls } else { Vec::new() };
+        }
+    }
+    calls
+}
+
+// Every row of five calls of the set after an opening, in lists of so many rows; with room enough, and then with little.
+// A shorter row is the front of a longer one, and every call is answered, so shorter rows are there too.
+pub fn calls(part: u64) -> String {
+    const ROWS: u64 = 8_000;
+    let set = small_set();
+    let few = [&set[..2], &set[3..6]].concat();
+    let (many, all) = (7u64.pow(5), 7u64.pow(5) + 5u64.pow(5));
+    let mut l = Lines::new();
+    for k in (part * ROWS)..((part + 1) * ROWS).min(all) {
+        let (set, number, lent) = if k < many { (&set, k, [200, 32, 4]) } else { (&few, k - many, [88, 9, 1]) };
+        let calls = row(set, number, lent);
+        if !calls.is_empty() {
+            l.step(Step::Buffers(lent.map(|n| n as u64)));
+            l.call(Call::New);
+            calls.into_iter().for_each(|call| {
+                l.call(call);
+            });
+        }
+    }
+    if part * ROWS < all {
+        l.text
+    } else {
+        String::new()
+    }
+}

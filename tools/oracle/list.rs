@@ -1,0 +1,220 @@
+// Call lists as docs/REPLAY.md has them: lines to steps, and steps to lines.
+use crate::model::{Call, Model, Value, BLOB, PHANDLES, STRINGS};
+
+// A line of a list.
+#[derive(Clone, PartialEq, Eq, Debug)]
+pub enum Step {
+    Make(Call),
+    Show,
+    Buffers([u64; 3]),
+    Lend([u64; 3]),
+    PutBlob(u64, Vec<u8>),
+    PutStrings(u64, Vec<u8>),
+    PutPhandles(u64, Vec<u32>),
+    Set(String, u64),
+    Quiet,
+    Remark(String),
+}
+
+// The name of a call, as a list and the counts have it.
+pub fn name(call: &Call) -> &'static str {
+    match call {
+        Call::New => "new",
+        Call::NewWithMemReserv(_) => "new_with_mem_reserv",
+        Call::SetBootCpuidPhys(_) => "set_boot_cpuid_phys",
+        Call::BeginNode(_) => "begin_node",
+        Call::EndNode(_) => "end_node",
+        Call::Property(_, Value::Bytes(_)) => "property",
+        Call::Property(_, Value::Null) => "property_null",
+        Call::Property(_, Value::Text(_)) => "property_string",
+        Call::Property(_, Value::Texts(..)) => "property_string_list",
+        Call::Property(_, Value::U32(_)) => "property_u32",
+        Call::Property(_, Value::U64(_)) => "property_u64",
+        Call::Property(_, Value::U32s(_)) => "property_array_u32",
+        Call::Property(_, Value::U64s(_)) => "property_array_u64",
+        Call::PropertyPhandle(_) => "property_phandle",
+        Call::Finish => "finish",
+    }
+}
+
+// A byte string as a word.
+fn spelled(bytes: &[u8]) -> String {
+    let mut out = String::new();
+    for &b in bytes {
+        match b {
+            0 => out.push('~'),
+            b'\\' | b'~' => out.push_str(&format!("\\x{b:02x}")),
+            33..=126 => out.push(b as char),
+            _ => out.push_str(&format!("\\x{b:02x}")),
+        }
+    }
+    out
+}
+
+// The word's byte string.
+fn meant(word: &str) -> Result<Vec<u8>, String> {
+    let (b, mut out, mut at) = (word.as_bytes(), Vec::new(), 0);
+    while at < b.len() {
+        match b[at] {
+            b'~' => out.push(0),
+            b'\\' => {
+                let digits = word.get(at + 2..at + 4).filter(|_| b.get(at + 1) == Some(&b'x'));
+                let byte = digits.and_then(|d| u8::from_str_radix(d, 16).ok());
+                out.push(byte.ok_or_else(|| format!("no byte: {word}"))?);
+                at += 3;
+            }
+            33..=126 => out.push(b[at]),
+            _ => return Err(format!("no byte string: {word}")),
+        }
+        at += 1;
+    }
+    Ok(out)
+}
+
+// A decimal number, taken modulo 2^64.
+fn number(word: &str) -> Result<u64, String> {
+    let mut n = 0u64;
+    for d in word.bytes() {
+        if !d.is_ascii_digit() {
+            return Err(format!("no number: {word}"));
+        }
+        n = n.wrapping_mul(10).wrapping_add((d - b'0') as u64);
+    }
+    Ok(n)
+}
+
+fn numbers(words: &[&str]) -> Result<Vec<u64>, String> {
+    words.iter().map(|w| number(w)).collect()
+}
+
+fn cells(words: &[&str]) -> Result<Vec<u32>, String> {
+    Ok(numbers(words)?.into_iter().map(|n| n as u32).collect())
+}
+
+fn three(words: &[&str]) -> Result<[u64; 3], String> {
+    numbers(words)?.try_into().map_err(|_| "three lengths are needed".to_string())
+}
+
+// What a property call's line gives it.
+fn property(words: &[&str]) -> Result<Call, String> {
+    let at = |k: usize| words.get(k).copied().unwrap_or("");
+    let rest = |k: usize| words.get(k..).unwrap_or(&[]);
+    let value = match at(0) {
+        "property" => Value::Bytes(meant(at(2))?),
+        "property_null" => Value::Null,
+        "property_string" => Value::Text(meant(at(2))?),
+        "property_string_list" => Value::Texts(meant(at(2))?, numbers(rest(3))?),
+        "property_u32" => Value::U32(number(at(2))? as u32),
+        "property_u64" => Value::U64(number(at(2))?),
+        "property_array_u32" => Value::U32s(cells(rest(2))?),
+        _ => Value::U64s(numbers(rest(2))?),
+    };
+    Ok(Call::Property(meant(at(1))?, value))
+}
+
+// A line as a step.
+pub fn parse(line: &str) -> Result<Step, String> {
+    let words: Vec<&str> = line.split(' ').collect();
+    let at = |k: usize| words.get(k).copied().unwrap_or("");
+    Ok(match words[0] {
+        "new" => Step::Make(Call::New),
+        "new_with_mem_reserv" => Step::Make(Call::NewWithMemReserv(numbers(&words[1..])?)),
+        "set_boot_cpuid_phys" => Step::Make(Call::SetBootCpuidPhys(number(at(1))? as u32)),
+        "begin_node" => Step::Make(Call::BeginNode(meant(at(1))?)),
+        "end_node" => Step::Make(Call::EndNode(number(at(1))?)),
+        "property"
+        | "property_null"
+        | "property_string"
+        | "property_string_list"
+        | "property_u32"
+        | "property_u64"
+        | "property_array_u32"
+        | "property_array_u64" => Step::Make(property(&words)?),
+        "property_phandle" => Step::Make(Call::PropertyPhandle(number(at(1))? as u32)),
+        "finish" => Step::Make(Call::Finish),
+        "show" => Step::Show,
+        "buffers" => Step::Buffers(three(&words[1..])?),
+        "lend" => Step::Lend(three(&words[1..])?),
+        "put_blob" => Step::PutBlob(number(at(1))?, meant(at(2))?),
+        "put_strings" => Step::PutStrings(number(at(1))?, meant(at(2))?),
+        "put_phandles" => Step::PutPhandles(number(at(1))?, cells(words.get(2..).unwrap_or(&[]))?),
+        "set" => Step::Set(at(1).to_string(), number(at(2))?),
+        "quiet" => Step::Quiet,
+        "aloud" | "record" | "blob" | "strings" | "phandles" | "fields" => {
+            return Err(format!("not foretold: {}", words[0]))
+        }
+        _ => Step::Remark(line.to_string()),
+    })
+}
+
+fn joined<T: ToString>(first: String, rest: &[T]) -> String {
+    rest.iter().fold(first, |line, n| line + " " + &n.to_string())
+}
+
+fn call_line(call: &Call) -> String {
+    let verb = name(call);
+    match call {
+        Call::New | Call::Finish => verb.to_string(),
+        Call::NewWithMemReserv(ns) => joined(verb.to_string(), ns),
+        Call::SetBootCpuidPhys(n) | Call::PropertyPhandle(n) => format!("{verb} {n}"),
+        Call::BeginNode(name) => format!("{verb} {}", spelled(name)),
+        Call::EndNode(n) => format!("{verb} {n}"),
+        Call::Property(name, value) => {
+            let front = format!("{verb} {}", spelled(name));
+            match value {
+                Value::Bytes(b) | Value::Text(b) => format!("{front} {}", spelled(b)),
+                Value::Null => front,
+                Value::Texts(b, lengths) => joined(format!("{front} {}", spelled(b)), lengths),
+                Value::U32(n) => format!("{front} {n}"),
+                Value::U64(n) => format!("{front} {n}"),
+                Value::U32s(ns) => joined(front, ns),
+                Value::U64s(ns) => joined(front, ns),
+            }
+        }
+    }
+}
+
+// A step as a line.
+pub fn line(step: &Step) -> String {
+    match step {
+        Step::Make(call) => call_line(call),
+        Step::Show => "show".to_string(),
+        Step::Buffers([b, s, p]) => format!("buffers {b} {s} {p}"),
+        Step::Lend([b, s, p]) => format!("lend {b} {s} {p}"),
+        Step::PutBlob(at, bytes) => format!("put_blob {at} {}", spelled(bytes)),
+        Step::PutStrings(at, bytes) => format!("put_strings {at} {}", spelled(bytes)),
+        Step::PutPhandles(at, ns) => joined(format!("put_phandles {at}"), ns),
+        Step::Set(field, n) => format!("set {field} {n}"),
+        Step::Quiet => "quiet".to_string(),
+        Step::Remark(text) => text.clone(),
+    }
+}
+
+fn put<T: Copy>(into: &mut [T], at: u64, from: &[T]) {
+    for (k, &x) in from.iter().enumerate() {
+        if let Some(place) = usize::try_from(at).ok().and_then(|at| into.get_mut(at.checked_add(k)?)) {
+            *place = x;
+        }
+    }
+}
+
+// Changes what the next call is given, where the step does that.
+pub fn prepare(model: &mut Model, step: &Step) {
+    let cut = |n: &[u64; 3]| {
+        [n[0].min(BLOB as u64) as usize, n[1].min(STRINGS as u64) as usize, n[2].min(PHANDLES as u64) as usize]
+    };
+    match step {
+        Step::Buffers(n) => {
+            model.lent = cut(n);
+            model.blob.fill(0xee);
+            model.strings.fill(0xee);
+            model.phandles.fill(0xeeee_eeee);
+        }
+        Step::Lend(n) => model.lent = cut(n),
+        Step::PutBlob(at, bytes) => put(&mut model.blob, *at, bytes),
+        Step::PutStrings(at, bytes) => put(&mut model.strings, *at, bytes),
+        Step::PutPhandles(at, ns) => put(&mut model.phandles, *at, ns),
+        Step::Set(field, n) => model.record.set(field, *n),
+        Step::Make(_) | Step::Show | Step::Quiet | Step::Remark(_) => {}
+    }
+}

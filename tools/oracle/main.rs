@@ -1,0 +1,131 @@
+// Writes call lists for fdt_replay, and foretells what it must write of them: by a model of document 01, held to the crate.
+mod beside;
+mod gen;
+mod list;
+mod model;
+
+use list::Step;
+use std::collections::BTreeMap;
+use std::fmt::Write as _;
+use std::io::{self, Read, Write};
+use std::process::exit;
+
+const USAGE: &str = "usage: oracle gen SEED [BYTES]   a random list of about so many bytes (1000000 where not told)
+       oracle gen names          every short name of a small alphabet, begun and as a property
+       oracle gen calls PART     every row of five calls from a small set, in parts from 0 on; nothing past the last
+       oracle expect [COUNTS]    reads a list, writes what fdt_replay must write of it in quiet mode,
+                                 and to the file COUNTS how often each call had each answer";
+
+// The check value of bytes: 64-bit FNV-1a.
+fn check(bytes: impl Iterator<Item = u8>) -> u64 {
+    bytes.fold(14695981039346656037, |h, b| (h ^ b as u64).wrapping_mul(1099511628211))
+}
+
+// A report line of quiet mode.
+fn report(out: &mut String, found: model::Outcome, m: &model::Model) {
+    write!(out, "{} {}", found.number, found.handle).unwrap();
+    m.record.apart().iter().for_each(|n| write!(out, " {n}").unwrap());
+    let [b, s, p] = m.lent;
+    let sums = [
+        check(m.blob[..b].iter().copied()),
+        check(m.strings[..s].iter().copied()),
+        check(m.phandles[..p].iter().flat_map(|n| n.to_be_bytes())),
+    ];
+    sums.iter().for_each(|n| write!(out, " {n}").unwrap());
+    out.push('\n');
+}
+
+fn shown(out: &mut String, part: &[u8]) {
+    write!(out, "{}", part.len()).unwrap();
+    if !part.is_empty() {
+        out.push(' ');
+    }
+    part.iter().for_each(|b| write!(out, "{b:02x}").unwrap());
+    out.push('\n');
+}
+
+// How often each call had each answer, and for which cause.
+type Counts = BTreeMap<(String, String, String), u64>;
+
+fn count(counts: &mut Counts, call: &str, answer: &str, cause: &str) {
+    *counts.entry((call.into(), answer.into(), cause.into())).or_default() += 1;
+}
+
+// Runs a list on the model, with the crate beside it.
+fn foretell(text: &str, out: &mut String, counts: &mut Counts) -> Result<(), String> {
+    let (mut m, mut crate_side) = (model::Model::new(), beside::Beside::new());
+    for (k, line) in text.lines().enumerate() {
+        let at = |e: String| format!("line {}: {line:.200}: {e}", k + 1);
+        match list::parse(line).map_err(at)? {
+            Step::Make(call) => {
+                crate_side.before(&m);
+                let found = m.call(&call);
+                crate_side.call(&call, found, &m).map_err(at)?;
+                report(out, found, &m);
+                count(counts, list::name(&call), &found.number.to_string(), found.cause);
+            }
+            Step::Show => {
+                let (part, cause) = m.show();
+                shown(out, part);
+                count(counts, "show", "", cause);
+            }
+            step => {
+                list::prepare(&mut m, &step);
+                if !matches!(step, Step::Quiet | Step::Remark(_) | Step::Lend(_)) {
+                    crate_side.changed();
+                }
+            }
+        }
+    }
+    counts.insert(("crate".into(), "".into(), "".into()), crate_side.asked);
+    Ok(())
+}
+
+fn expect(counts_file: Option<&String>) -> Result<(), String> {
+    let (mut text, mut out, mut counts) = (String::new(), String::new(), Counts::new());
+    io::stdin().read_to_string(&mut text).map_err(|e| format!("the list cannot be read: {e}"))?;
+    foretell(&text, &mut out, &mut counts)?;
+    let told: String =
+        counts.iter().map(|((call, answer, cause), n)| format!("{call}\t{answer}\t{cause}\t{n}\n")).collect();
+    if let Some(file) = counts_file {
+        std::fs::write(file, told).map_err(|e| format!("{file}: {e}"))?;
+    }
+    io::stdout().write_all(out.as_bytes()).map_err(|e| e.to_string())
+}
+
+fn generate(words: &[String]) -> Option<String> {
+    let words: Vec<&str> = words.iter().map(String::as_str).collect();
+    match words[..] {
+        ["names"] => Some(gen::names()),
+        ["calls", part] => Some(gen::calls(part.parse().ok()?)),
+        [seed] => Some(gen::random(seed.parse().ok()?, 1_000_000)),
+        [seed, bytes] => Some(gen::random(seed.parse().ok()?, bytes.parse().ok()?)),
+        _ => None,
+    }
+}
+
+fn main() {
+    let words: Vec<String> = std::env::args().skip(1).collect();
+    let done = match words.first().map(String::as_str) {
+        Some("-h" | "--help") => {
+            println!("{USAGE}");
+            Ok(())
+        }
+        Some("gen") => match generate(&words[1..]) {
+            Some(list) => io::stdout().write_all(list.as_bytes()).map_err(|e| e.to_string()),
+            None => usage(),
+        },
+        Some("expect") if words.len() <= 2 => expect(words.get(1)),
+        _ => usage(),
+    };
+    if let Err(e) = done {
+        eprintln!("oracle: {e}");
+        exit(1);
+    }
+}
+
+// Says how it is used.
+fn usage() -> ! {
+    eprintln!("{USAGE}");
+    exit(2)
+}
