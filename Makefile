@@ -1,10 +1,11 @@
 # `make test` is the merge gate. tools/test has its steps.
 
-.PHONY: help test steps compare
+.PHONY: help test steps compare outside
 
 help:
 	@echo 'make test                the merge gate: its last line is N passed, 0 failed'
 	@echo 'make compare SEEDS=20    fdt_replay against the original crate, on so many random lists and every short input'
+	@echo 'make outside             finished blobs read by dtc and libfdt'
 	@echo 'tools/promises           that what docs/PROMISES.md cites is there, and what is not yet shown'
 	@echo 'tools/moved OLD NEW      what moved between two git revisions'
 	@echo 'tools/check-time [LOG]   how long rt ci takes, crate by crate'
@@ -20,3 +21,7 @@ steps:
 # Against the original crate: so many seeds, or FIRST-LAST.
 compare:
 	@tools/compare $(SEEDS)
+
+# By the usual readers of devicetree blobs.
+outside:
+	@tools/outside $(RUNS)
