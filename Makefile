@@ -1,11 +1,12 @@
 # `make test` is the merge gate. tools/test has its steps.
 
-.PHONY: help test steps compare outside
+.PHONY: help test steps compare outside bench
 
 help:
 	@echo 'make test                the merge gate: its last line is N passed, 0 failed'
 	@echo 'make compare SEEDS=20    fdt_replay against the original crate, on so many random lists and every short input'
 	@echo 'make outside             finished blobs read by dtc and libfdt'
+	@echo 'make bench               the time of a build beside the original crate: docs/PERFORMANCE.md'
 	@echo 'tools/promises           that what docs/PROMISES.md cites is there, and what is not yet shown'
 	@echo 'tools/moved OLD NEW      what moved between two git revisions'
 	@echo 'tools/check-time [LOG]   how long rt ci takes, crate by crate'
@@ -25,3 +26,7 @@ compare:
 # By the usual readers of devicetree blobs.
 outside:
 	@tools/outside $(RUNS)
+
+# Beside the original crate, both built for this machine: so many rounds.
+bench:
+	@tools/bench $(ROUNDS)

@@ -1,0 +1,151 @@
+// Times the original and ours on the same calls: bytes compared first, then interleaved rounds.
+use std::hint::black_box;
+use std::time::Instant;
+use vm_fdt::FdtWriter;
+
+extern "C" {
+    // Ours: opens a writer, makes the calls, and tells how long the shown blob is.
+    fn fdt_bench(
+        calls: *const usize,
+        calls_len: usize,
+        text: *const u8,
+        text_len: usize,
+        blob: *mut u8,
+        blob_len: usize,
+        strings: *mut u8,
+        strings_len: usize,
+    ) -> usize;
+}
+
+// A call: 1 begins a node, 2 ends the last one, 3 writes a property, 9 finishes; where its name and its value stand in the text.
+type Call = [usize; 5];
+
+struct Work {
+    calls: Vec<Call>,
+    text: String,
+}
+
+impl Work {
+    fn call(&mut self, kind: usize, name: &str, value: &str) {
+        let at = self.text.len();
+        self.text.push_str(name);
+        self.text.push_str(value);
+        self.calls.push([kind, at, at + name.len(), at + name.len(), self.text.len()]);
+    }
+
+    // So many nodes under a root, four properties each, of so many distinct names, with values of 1 to 4 times so many bytes.
+    fn new(nodes: usize, names: usize, bytes: usize) -> Work {
+        let mut w = Work { calls: Vec::new(), text: String::new() };
+        w.call(1, "", "");
+        for i in 0..nodes {
+            w.call(1, &format!("sensor@{i:x}"), "");
+            for k in i * 4..i * 4 + 4 {
+                let value: String = (0..(k % 4 + 1) * bytes).map(|b| ((k * 7 + b) % 127) as u8 as char).collect();
+                w.call(3, &format!("station,prop-{:03}", k % names), &value);
+            }
+            w.call(2, "", "");
+        }
+        w.call(2, "", "");
+        w.call(9, "", "");
+        w
+    }
+}
+
+fn original(w: &Work) -> Vec<u8> {
+    let (mut f, mut open) = (FdtWriter::new().unwrap(), Vec::new());
+    for &[kind, a, b, c, d] in &w.calls {
+        match kind {
+            1 => open.push(f.begin_node(&w.text[a..b]).unwrap()),
+            2 => f.end_node(open.pop().unwrap()).unwrap(),
+            3 => f.property(&w.text[a..b], &w.text.as_bytes()[c..d]).unwrap(),
+            _ => break,
+        }
+    }
+    f.finish().unwrap()
+}
+
+// The buffers that ours is lent.
+struct Lent {
+    blob: Vec<u8>,
+    strings: Vec<u8>,
+}
+
+fn ours(w: &Work, lent: &mut Lent) -> usize {
+    // five numbers stand in a row in every call, so the list is one list of numbers
+    let numbers = w.calls.as_flattened();
+    unsafe {
+        fdt_bench(
+            numbers.as_ptr(),
+            numbers.len(),
+            w.text.as_ptr(),
+            w.text.len(),
+            lent.blob.as_mut_ptr(),
+            lent.blob.len(),
+            lent.strings.as_mut_ptr(),
+            lent.strings.len(),
+        )
+    }
+}
+
+// Nanoseconds for one build, over so many.
+fn time(builds: usize, mut build: impl FnMut()) -> f64 {
+    let began = Instant::now();
+    (0..builds).for_each(|_| build());
+    began.elapsed().as_nanos() as f64 / builds as f64
+}
+
+fn median(mut all: Vec<f64>) -> f64 {
+    all.sort_by(f64::total_cmp);
+    all[all.len() / 2]
+}
+
+fn best(all: &[f64]) -> f64 {
+    all.iter().copied().fold(f64::MAX, f64::min)
+}
+
+// Compares the bytes, then times both in turn: one line of the report.
+fn measure(name: &str, w: &Work, rounds: usize) {
+    let mut lent = Lent { blob: vec![0xee; 65_536], strings: vec![0xee; 8_192] };
+    let (theirs, n) = (original(w), ours(w, &mut lent));
+    assert!(theirs == lent.blob[..n], "{name}: the blobs differ: {} bytes and {n}", theirs.len());
+    let once = time(3, || drop(black_box(original(black_box(w)))));
+    let builds = ((5e6 / once) as usize).clamp(3, 5_000);
+    let (mut a, mut b) = (Vec::new(), Vec::new());
+    for round in 0..rounds {
+        for turn in 0..2 {
+            if (round + turn) % 2 == 0 {
+                a.push(time(builds, || drop(black_box(original(black_box(w))))));
+            } else {
+                b.push(time(builds, || {
+                    black_box(ours(black_box(w), &mut lent));
+                }));
+            }
+        }
+    }
+    let ratio = median(a.iter().zip(&b).map(|(a, b)| b / a).collect());
+    println!(
+        "{name:<34} {:>6} bytes  original {:>9.0} ns  ours {:>9.0} ns  ratio: median {:.2}, best {:.2}",
+        theirs.len(),
+        best(&a),
+        best(&b),
+        ratio,
+        best(&b) / best(&a),
+    );
+}
+
+fn main() {
+    let rounds: usize = std::env::args().nth(1).map_or(41, |s| s.parse().expect("usage: bench [ROUNDS]"));
+    measure("500 nodes, 40 names", &Work::new(500, 40, 4), rounds);
+    println!("\nas the nodes grow (40 names):");
+    for nodes in [31, 62, 125, 250, 500] {
+        measure(&format!("{nodes} nodes"), &Work::new(nodes, 40, 4), rounds);
+    }
+    println!("\nas the names grow (400 nodes):");
+    for names in [5, 10, 20, 40, 80, 160, 320] {
+        measure(&format!("{names} names"), &Work::new(400, names, 4), rounds);
+    }
+    println!("\nas the values grow (40 nodes, 40 names):");
+    for bytes in [4, 8, 16, 32, 64, 128] {
+        measure(&format!("values of {bytes} to {} bytes", 4 * bytes), &Work::new(40, 40, bytes), rounds);
+    }
+}
