@@ -1,11 +1,12 @@
 # `make test` is the merge gate. tools/test has its steps.
 
-.PHONY: help test steps compare outside bench
+.PHONY: help test steps compare outside bench mutants
 
 help:
 	@echo 'make test                the merge gate: its last line is N passed, 0 failed'
 	@echo 'make compare SEEDS=20    fdt_replay against the original crate, on so many random lists and every short input'
 	@echo 'make outside             finished blobs read by dtc and libfdt'
+	@echo 'make mutants             wrong programs, and which list catches each: docs/COMPARISON.md (it takes long)'
 	@echo 'make bench               the time of a build beside the original crate: docs/PERFORMANCE.md'
 	@echo 'tools/promises           that what docs/PROMISES.md cites is there, and what is not yet shown'
 	@echo 'tools/moved OLD NEW      what moved between two git revisions'
@@ -30,3 +31,7 @@ outside:
 # Beside the original crate, both built for this machine: so many rounds.
 bench:
 	@tools/bench $(ROUNDS)
+
+# Whether the comparison would notice: wrong programs, built unproved.
+mutants:
+	@tools/mutants
