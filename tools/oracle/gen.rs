@@ -139,7 +139,7 @@ fn node_name(r: &mut Rng) -> Vec<u8> {
             [vec![r.of(b"azAZ")], some(r, NODE_CLASS, n)].concat()
         }
         2 | 3 => {
-            let (n, unit) = (r.of(&[0, 1, 28, 29, 30, 31]), r.of(&[0, 1, 2, 30, 31, 40]));
+            let (n, unit) = (r.of(&[0, 1, 28, 29, 30, 31]), r.of(&[0, 1, 2, 30, 31, 40, 40, 200]));
             [vec![r.of(b"azAZ")], some(r, NODE_CLASS, n), b"@".to_vec(), some(r, NODE_CLASS, unit)].concat()
         }
         4 => {
@@ -224,7 +224,8 @@ fn string(r: &mut Rng, n: u64) -> Vec<u8> {
 }
 
 fn strings(r: &mut Rng) -> Value {
-    let parts: Vec<Vec<u8>> = (0..r.below(5))
+    let count = if r.once_in(60) { r.of(&[20, 60]) } else { r.below(5) };
+    let parts: Vec<Vec<u8>> = (0..count)
         .map(|_| {
             let n = r.below(4) * r.below(4);
             string(r, n)
@@ -666,7 +667,11 @@ fn foreign_strings(r: &mut Rng) -> Vec<u8> {
 
 // A record and buffers of any kind, and a few calls.
 fn foreign(r: &mut Rng, l: &mut Lines) {
-    let lent = [r.of(&[60, 64, 72, 100, 128, 160, 300, 1]) + r.below(3), r.below(60), r.below(6)];
+    let mut lent = [r.of(&[60, 64, 72, 100, 128, 160, 300, 1]) + r.below(3), r.below(60), r.below(6)];
+    if r.once_in(12) {
+        // none at all, or more than there is
+        lent[r.below(3) as usize] = r.of(&[0, 0, 0, u64::MAX]);
+    }
     l.step(Step::Buffers(lent));
     for _ in 0..1 + r.below(3) {
         let strings = foreign_strings(r);
