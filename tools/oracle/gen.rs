@@ -786,6 +786,22 @@ pub fn random(seed: u64, bytes: usize) -> String {
     l.text
 }
 
+// A fixed list of the blocks that meet rooms exactly and break records in one place, so that every run has all corners.
+pub fn corners() -> String {
+    let (mut r, mut l) = (Rng(0), Lines::new());
+    many_phandles(&mut r, &mut l);
+    while l.text.len() < 900_000 {
+        match r.below(40) {
+            0 => deep(&mut r, &mut l),
+            1..=3 => plain(&mut r, &mut l),
+            4..=23 => tight(&mut r, &mut l),
+            24..=37 => broken(&mut r, &mut l),
+            _ => foreign(&mut r, &mut l),
+        }
+    }
+    l.text
+}
+
 // ---- every short input
 
 // Every name of up to so many bytes.

@@ -13,6 +13,7 @@ use std::process::exit;
 const USAGE: &str = "usage: oracle gen SEED [BYTES]   a random list of about so many bytes (1000000 where not told)
        oracle gen names          every short name of a small alphabet, begun and as a property
        oracle gen calls PART     every row of five calls from a small set, in parts from 0 on; nothing past the last
+       oracle gen corners        a fixed list of rooms met exactly and records broken in one place
        oracle expect [COUNTS]    reads a list, writes what fdt_replay must write of it in quiet mode,
                                  and to the file COUNTS how often each call had each answer";
 
@@ -97,6 +98,7 @@ fn generate(words: &[String]) -> Option<String> {
     let words: Vec<&str> = words.iter().map(String::as_str).collect();
     match words[..] {
         ["names"] => Some(gen::names()),
+        ["corners"] => Some(gen::corners()),
         ["calls", part] => Some(gen::calls(part.parse().ok()?)),
         [seed] => Some(gen::random(seed.parse().ok()?, 1_000_000)),
         [seed, bytes] => Some(gen::random(seed.parse().ok()?, bytes.parse().ok()?)),
