@@ -665,9 +665,20 @@ fn foreign_strings(r: &mut Rng) -> Vec<u8> {
     all
 }
 
+// A call of any kind; a property's name is often one that such strings have.
+fn foreign_call(r: &mut Rng, m: &Model) -> Call {
+    let kind = r.below(KINDS);
+    match call_of(r, kind, m.record.node_depth) {
+        Call::Property(_, value) if r.once_in(2) => {
+            Call::Property(r.of(&["reg", "cells", "size-cells", "s"]).into(), value)
+        }
+        call => call,
+    }
+}
+
 // A record and buffers of any kind, and a few calls.
 fn foreign(r: &mut Rng, l: &mut Lines) {
-    let mut lent = [r.of(&[60, 64, 72, 100, 128, 160, 300, 1]) + r.below(3), r.below(60), r.below(6)];
+    let mut lent = [r.of(&[60, 64, 72, 100, 128, 160, 300, 300, 1]) + r.below(3), 20 + r.below(50), r.below(6)];
     if r.once_in(12) {
         // none at all, or more than there is
         lent[r.below(3) as usize] = r.of(&[0, 0, 0, u64::MAX]);
@@ -691,15 +702,17 @@ fn foreign(r: &mut Rng, l: &mut Lines) {
             .min(usable[0] / 4 * 4);
         let fits =
             [usable[0], room, usable[1], used.min(usable[1]), usable[2], count.min(usable[2]), n, r.below(66), 5];
+        // all fields fit, or all but one, or any may not
+        let (spoiled, one) = (r.below(4), r.below(9) as usize);
         for (k, name) in crate::model::FIELDS.iter().take(9).enumerate() {
-            let n = field(r, fits[k]);
+            let n = if spoiled == 0 || spoiled == 1 && k == one { field(r, fits[k]) } else { fits[k] };
             l.set(name, n);
         }
         l.set("node_ended", r.below(4) / 3);
         l.set("finished", r.below(12) / 11);
         for _ in 0..1 + r.below(6) {
-            let (kind, depth) = (r.below(KINDS), l.m.record.node_depth);
-            l.call(call_of(r, kind, depth));
+            let call = foreign_call(r, &l.m);
+            l.call(call);
             if r.once_in(4) {
                 l.step(Step::Show)
             }
