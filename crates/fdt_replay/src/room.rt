@@ -1,0 +1,24 @@
+// The large arrays. Each says how long it is, so that lending it counts nothing out.
+ghost use mathlib.Core.Path.{_≡_};
+ghost use lib.ListN.{length};
+
+// Room for a list, and one byte more.
+pub fn input() -> [u8; 1_048_576]
+    ensures { λ r. ⌜ 1048576 ≡ length r ⌝ }
+{
+    [0; 1_048_576]
+}
+
+// A blob that is longer than its ceiling.
+pub fn blob() -> [u8; 65_600]
+    ensures { λ r. ⌜ 65600 ≡ length r ⌝ }
+{
+    [0xee; 65_600]
+}
+
+// Strings that are longer than their ceiling.
+pub fn strings() -> [u8; 8_256]
+    ensures { λ r. ⌜ 8256 ≡ length r ⌝ }
+{
+    [0xee; 8_256]
+}
