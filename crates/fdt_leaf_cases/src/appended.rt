@@ -18,17 +18,20 @@ pub fn numbers() {
 fn aligned(len: usize) {
     let mut rest = [0xee; 4];
     fdt_bytes::align(&mut rest, len, 4);
-    said::text(b"align ");
-    said::number(len as u64);
+    said::counted(b"align ", len);
     said::buffer(b" to 4", &rest);
 }
 
 // Padding: every length up to 8, and the largest.
 pub fn padding() {
-    let mut len = 0;
-    while len < 9 {
-        aligned(len);
-        len += 1;
-    }
+    aligned(0);
+    aligned(1);
+    aligned(2);
+    aligned(3);
+    aligned(4);
+    aligned(5);
+    aligned(6);
+    aligned(7);
+    aligned(8);
     aligned(0xffff_ffff_ffff_ffff);
 }

@@ -4,6 +4,7 @@ mod names;
 mod reservations;
 mod said;
 mod strings;
+mod tables;
 
 fn main() {
     names::all();

@@ -1,38 +1,19 @@
-// Names, one to a line of a table: 0 where a name is taken, and 10, 11 or 5 where it is not.
+// Names: 0 where a name is taken, and 10, 11 or 5 where it is not.
 use crate::said;
+use crate::tables;
 
-fn node(name: &[u8]) {
-    said::text(b"node ");
-    said::bytes(name);
+// A name as one of a node, as one of a property, and as bytes with or without a 0.
+pub fn tried(name: &[u8]) {
+    said::asked(b"node ", name);
     said::passed(fdt_names::node_name_valid(name), 10);
-}
-
-fn property(name: &[u8]) {
-    said::text(b"property ");
-    said::bytes(name);
+    said::asked(b"property ", name);
     said::passed(fdt_names::property_name_valid(name), 11);
-}
-
-fn zero(name: &[u8]) {
-    said::text(b"zero ");
-    said::bytes(name);
+    said::asked(b"zero ", name);
     said::passed(!fdt_names::has_zero(name), 5);
 }
 
-// Each line of the table, as a name of a node, as a name of a property, and as bytes with or without a 0.
 fn each(table: &[u8]) {
-    let mut start = 0;
-    while start < table.len() {
-        let end = bytes::scan::find(table, start, table.len(), b'\n');
-        let name = &table[start..end];
-        node(name);
-        property(name);
-        zero(name);
-        if end == table.len() {
-            return;
-        }
-        start = end + 1;
-    }
+    tables::each(table, false, &[]);
 }
 
 // Lengths 0, 1, 31 and 32, with and without a unit address; every kind of byte, first and later.

@@ -1,13 +1,13 @@
 // Reservations: 0 where they are taken, 8 or 9 where they are not.
 use crate::said;
+use fdt_lines::said::numbers;
+use fdt_lines::said::text;
 
 const LAST: u64 = 0xffff_ffff_ffff_ffff;
 
 fn entry(address: u64, size: u64) {
-    said::text(b"reservation ");
-    said::number(address);
-    said::text(b" ");
-    said::number(size);
+    text(b"reservation");
+    numbers(&[address, size], true);
     let made = fdt_reserve::FdtReserveEntry::new(address, size);
     if let fdt_reserve::Reserved::Entry(e) = made {
         said::passed(e.address == address && e.size == size, 99);
@@ -16,15 +16,10 @@ fn entry(address: u64, size: u64) {
     }
 }
 
-fn overlap(numbers: &[u64]) {
-    said::text(b"overlap");
-    let mut i = 0;
-    while i < numbers.len() {
-        said::text(b" ");
-        said::number(numbers[i]);
-        i += 1;
-    }
-    said::passed(!fdt_reserve::check_overlapping(numbers), 9);
+fn overlap(list: &[u64]) {
+    text(b"overlap");
+    numbers(list, true);
+    said::passed(!fdt_reserve::check_overlapping(list), 9);
 }
 
 // One reservation: every pair of a few addresses and sizes at the ends.

@@ -1,53 +1,34 @@
 // The strings area: where a name is found, where a new one goes, what storing one leaves.
 use crate::said;
+use crate::tables;
+use fdt_lines::said::text;
 use fdt_strings::Found;
 use fdt_strings::Interned;
 
-fn find(strings: &[u8], name: &[u8]) {
-    said::text(b"find ");
-    said::bytes(name);
-    said::text(b" in ");
-    said::bytes(strings);
+// Looks for a name in strings.
+pub fn find(strings: &[u8], name: &[u8]) {
+    said::asked(b"find ", name);
+    said::asked(b" in ", strings);
     match fdt_strings::find_string(strings, name) {
-        Found::At(offset) => {
-            said::text(b": at ");
-            said::number(offset as u64);
-        }
-        Found::Nothing => said::text(b": nothing"),
+        Found::At(offset) => said::counted(b": at ", offset),
+        Found::Nothing => text(b": nothing"),
     }
-    said::text(b"\n");
+    text(b"\n");
 }
 
 fn ask(used: &[u8], room: usize, name: &[u8]) {
-    said::text(b"ask ");
-    said::bytes(name);
-    said::text(b" with room ");
-    said::number(room as u64);
+    said::asked(b"ask ", name);
+    said::counted(b" with room ", room);
     match fdt_strings::intern_string(used, room, name) {
-        Interned::Known(offset) => {
-            said::text(b": known at ");
-            said::number(offset as u64);
-        }
-        Interned::New(offset) => {
-            said::text(b": new at ");
-            said::number(offset as u64);
-        }
-        Interned::StringRoom => said::text(b": 15"),
+        Interned::Known(offset) => said::counted(b": known at ", offset),
+        Interned::New(offset) => said::counted(b": new at ", offset),
+        Interned::StringRoom => text(b": 15"),
     }
-    said::text(b"\n");
+    text(b"\n");
 }
 
-// Each line of the table is a name that is looked for in the strings.
 fn each(strings: &[u8], table: &[u8]) {
-    let mut start = 0;
-    while start < table.len() {
-        let end = bytes::scan::find(table, start, table.len(), b'\n');
-        find(strings, &table[start..end]);
-        if end == table.len() {
-            return;
-        }
-        start = end + 1;
-    }
+    tables::each(table, true, strings);
 }
 
 // Every room up to 12.

@@ -11,14 +11,11 @@ align-requires : tie.Need-align-requires
 unfolding padding
 align-requires c κs = search needs
 
-slice-aggregate-text : tie.Need-slice-aggregate-text
-slice-aggregate-text c = search needs
+slice-aggregate-counted : tie.Need-slice-aggregate-counted
+slice-aggregate-counted c = search needs
 
-text-requires : tie.Need-text-requires
-text-requires c κs = search needs
-
-number-requires : tie.Need-number-requires
-number-requires c κs = search needs
+counted-requires : tie.Need-counted-requires
+counted-requires c κs = search needs
 
 slice-aggregate-buffer : tie.Need-slice-aggregate-buffer
 slice-aggregate-buffer c = search needs
@@ -38,9 +35,8 @@ aligned-spec =
     (tie.spec
     slice-aggregate-align
     align-requires
-    slice-aggregate-text
-    text-requires
-    number-requires
+    slice-aggregate-counted
+    counted-requires
     slice-aggregate-buffer
     slice-aggregate-buffer-2
     buffer-requires
