@@ -725,6 +725,27 @@ fn foreign(r: &mut Rng, l: &mut Lines) {
     }
 }
 
+// Entries past the used strings and past the count of phandles, and calls that must not find them.
+fn beyond(r: &mut Rng, l: &mut Lines) {
+    l.step(Step::Buffers([200 + r.below(60), 30 + r.below(10), 5 + r.below(4)]));
+    l.call(Call::New);
+    l.call(Call::BeginNode(Vec::new()));
+    l.step(Step::PutStrings(0, b"reg\0cells\0s\0reg\0size-cells\0".to_vec()));
+    l.step(Step::PutPhandles(0, vec![1, 2, 3, 4, 5]));
+    l.set("strings_used", r.of(&[0, 4, 10, 12, 16]));
+    l.set("phandles_used", r.below(6));
+    for _ in 0..6 {
+        if r.once_in(2) {
+            let value = r.of(&[1, 2, 3, 4, 5, 0xeeee_eeee]);
+            l.call(Call::PropertyPhandle(value));
+        } else {
+            let name = r.of(&["reg", "cells", "s", "size-cells"]);
+            l.call(Call::Property(name.into(), Value::Null));
+        }
+    }
+    ending(r, l);
+}
+
 // Names that fill the strings at their ceiling, or one byte short of it.
 fn many_names(r: &mut Rng, l: &mut Lines) {
     let lent = [6_000, r.of(&[8_191, 8_192, 8_193, 8_256]), 4];
@@ -796,6 +817,7 @@ pub fn random(seed: u64, bytes: usize) -> String {
             _ => foreign(&mut r, &mut l),
         }
     }
+    (0..20).for_each(|_| beyond(&mut r, &mut l));
     l.text
 }
 
@@ -812,6 +834,7 @@ pub fn corners() -> String {
             _ => foreign(&mut r, &mut l),
         }
     }
+    (0..40).for_each(|_| beyond(&mut r, &mut l));
     l.text
 }
 
