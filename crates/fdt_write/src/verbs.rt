@@ -1,0 +1,52 @@
+// What a line asks for, by its first word: the word's place in the list below.
+use crate::scan;
+use fdt_lines::words;
+
+pub const RESERVE: usize = 0;
+
+pub const BOOT: usize = 1;
+
+pub const BEGIN: usize = 2;
+
+pub const END: usize = 3;
+
+pub const PHANDLE: usize = 4;
+
+pub const NULL: usize = 5;
+
+pub const STRING: usize = 6;
+
+pub const STRINGS: usize = 7;
+
+pub const BYTES: usize = 8;
+
+pub const U32: usize = 9;
+
+pub const U64: usize = 10;
+
+// Any other word.
+pub const NO_CALL: usize = 11;
+
+// The list's end, which no line asks for.
+pub const FINISH: usize = 12;
+
+// A line without a word.
+pub const BLANK: usize = 13;
+
+// What a line asks for.
+pub fn asked(line: &[u8]) -> usize {
+    let at = scan::start(line, 0);
+    if scan::ended(line, at) {
+        return BLANK;
+    }
+    words::place(
+        b"reserve boot begin end phandle null string strings bytes u32 u64",
+        NO_CALL,
+        scan::word(line, at),
+    )
+}
+
+// Where the first word of a line ends.
+pub fn past(line: &[u8]) -> usize {
+    scan::end(line, scan::start(line, 0))
+}
