@@ -1,9 +1,13 @@
 // The writer's calls, with what a line gives them.
 use crate::faults;
+use crate::faults::Got;
 use crate::numbers;
+use crate::numbers::Wide;
 use crate::room;
 use crate::scan;
 use crate::texts;
+use crate::texts::Lengths;
+use crate::texts::Text;
 use crate::verbs;
 use fdt_nodes::FdtWriterNode;
 use fdt_writer::Answered;
@@ -35,12 +39,143 @@ pub fn uncalled(writer: FdtWriter, fault: usize, at: usize) -> Step {
     Step { writer, fault, at }
 }
 
+// What is known of a line's name and values: the name's fault comes first, and the values must be as many as a call takes.
+fn settled(verb: usize, name: Got, all: Got) -> Got {
+    if name.fault != faults::NONE {
+        return name;
+    }
+    if all.fault != faults::ENDED {
+        return all;
+    }
+    faults::ends(all, amiss(verb, all.count))
+}
+
+// What is wrong with so many values.
+fn amiss(verb: usize, count: usize) -> usize {
+    match verb {
+        verbs::BEGIN | verbs::NULL => faults::NONE,
+        verbs::STRING | verbs::STRINGS => {
+            if count == 0 {
+                return faults::NO_STRING;
+            }
+            if verb == verbs::STRING && 1 < count {
+                return faults::MORE;
+            }
+            faults::NONE
+        }
+        _ => if count == 0 {
+            faults::NO_NUMBER
+        } else {
+            faults::NONE
+        },
+    }
+}
+
+// That nothing follows from a place on.
+fn nothing(line: &[u8], at: usize, n: usize) -> Got {
+    let fault = if scan::ended(line, at) {
+        faults::ENDED
+    } else {
+        faults::MORE
+    };
+    Got {
+        at,
+        n,
+        count: 0,
+        fault,
+    }
+}
+
+// Reads the values that follow a name: strings and bytes behind it into its text, numbers into a table.
+fn values(
+    line: &[u8],
+    verb: usize,
+    name: Got,
+    text: &mut Text,
+    lengths: &mut Lengths,
+    wide: &mut Wide,
+) -> Got {
+    let at = scan::start(line, name.at);
+    match verb {
+        verbs::NULL => nothing(line, at, name.n),
+        verbs::STRING | verbs::STRINGS => texts::strings(line, at, name.n, text, lengths),
+        verbs::BYTES => texts::bytes(line, at, name.n, text),
+        _ => numbers::list(line, at, verb, wide),
+    }
+}
+
+// Writes a property of strings, bytes or nothing.
+fn spelled(
+    w: FdtWriter,
+    verb: usize,
+    name: &[u8],
+    val: &[u8],
+    lengths: &[usize],
+    blob: &mut [u8],
+    strings: &mut [u8],
+) -> Answered {
+    match verb {
+        verbs::NULL => w.property_null(blob, strings, name),
+        verbs::STRING => w.property_string(blob, strings, name, val),
+        verbs::STRINGS => w.property_string_list(blob, strings, name, val, lengths),
+        _ => w.property(blob, strings, name, val),
+    }
+}
+
+// Writes a property of numbers of 4 bytes; more of them than the table has fit no blob either.
+fn cells(w: FdtWriter, name: &[u8], list: &[u64], blob: &mut [u8], strings: &mut [u8]) -> Answered {
+    let mut space = room::cells();
+    numbers::cells(list, &mut space);
+    w.property_array_u32(
+        blob,
+        strings,
+        name,
+        numbers::front_cells(&space, list.len()),
+    )
+}
+
+// Writes a property.
+fn property(w: FdtWriter, verb: usize, line: &[u8], blob: &mut [u8], strings: &mut [u8]) -> Step {
+    let mut text = io::large_buffer();
+    let mut lengths = room::lengths();
+    let mut wide = room::wide();
+    let name = texts::name(line, &mut text);
+    let all = settled(
+        verb,
+        name,
+        values(line, verb, name, &mut text, &mut lengths, &mut wide),
+    );
+    if all.fault != faults::NONE {
+        return uncalled(w, all.fault, all.at);
+    }
+    let label = texts::part(&text, 0, name.n);
+    let list = numbers::part(&wide, all.count);
+    match verb {
+        verbs::U32 => answered(cells(w, label, list, blob, strings)),
+        verbs::U64 => answered(w.property_array_u64(blob, strings, label, list)),
+        _ => answered(spelled(
+            w,
+            verb,
+            label,
+            texts::part(&text, name.n, all.n),
+            texts::front(&lengths, all.count),
+            blob,
+            strings,
+        )),
+    }
+}
+
 // Begins a node.
 fn begin(w: FdtWriter, line: &[u8], blob: &mut [u8]) -> Step {
     let mut text = io::large_buffer();
-    let name = texts::name_alone(line, &mut text);
-    if name.fault != faults::NONE {
-        return uncalled(w, name.fault, name.at);
+    let name = texts::name(line, &mut text);
+    let all = settled(
+        verbs::BEGIN,
+        name,
+        nothing(line, scan::start(line, name.at), name.n),
+    );
+    if all.fault != faults::NONE {
+        return uncalled(w, all.fault, all.at);
     }
     let a = w.begin_node(blob, texts::part(&text, 0, name.n));
     let answer = a.answer;
@@ -50,7 +185,7 @@ fn begin(w: FdtWriter, line: &[u8], blob: &mut [u8]) -> Step {
 
 // Ends the node that was begun last: the depth is its handle.
 fn end(w: FdtWriter, line: &[u8], blob: &mut [u8]) -> Step {
-    let rest = scan::start(line, verbs::past(line));
+    let rest = scan::next(line, verbs::start(line));
     if !scan::ended(line, rest) {
         return uncalled(w, faults::MORE, rest);
     }
@@ -68,102 +203,15 @@ fn boot(w: FdtWriter, line: &[u8]) -> Step {
     answered(w.set_boot_cpuid_phys(numbers::low(one[0])))
 }
 
-// Writes an empty property.
-fn empty(w: FdtWriter, line: &[u8], blob: &mut [u8], strings: &mut [u8]) -> Step {
-    let mut text = io::large_buffer();
-    let name = texts::name_alone(line, &mut text);
-    if name.fault != faults::NONE {
-        return uncalled(w, name.fault, name.at);
-    }
-    answered(w.property_null(blob, strings, texts::part(&text, 0, name.n)))
-}
-
-// What is wrong with the strings of a call.
-fn spelled_fault(verb: usize, fault: usize, count: usize) -> usize {
-    if fault == faults::NONE && count == 0 {
-        return faults::NO_STRING;
-    }
-    if fault == faults::NONE && verb == verbs::STRING && 1 < count {
-        return faults::MORE;
-    }
-    fault
-}
-
-// Writes a property of strings.
-fn spelled(w: FdtWriter, verb: usize, line: &[u8], blob: &mut [u8], strings: &mut [u8]) -> Step {
-    let mut text = io::large_buffer();
-    let name = texts::name(line, verbs::past(line), &mut text);
-    if name.fault != faults::NONE {
-        return uncalled(w, name.fault, name.at);
-    }
-    let mut lengths = room::lengths();
-    let all = texts::strings(line, name, &mut text, &mut lengths);
-    let got = all.got;
-    let fault = spelled_fault(verb, got.fault, all.count);
-    if fault != faults::NONE {
-        return uncalled(w, fault, got.at);
-    }
-    let label = texts::part(&text, 0, name.n);
-    let val = texts::part(&text, name.n, got.n);
-    let list = numbers::front_lengths(&lengths, all.count);
-    answered(w.property_string_list(blob, strings, label, val, list))
-}
-
-// Writes a property of bytes.
-fn raw(w: FdtWriter, name: &[u8], list: &[u64], blob: &mut [u8], strings: &mut [u8]) -> Step {
-    let mut space = io::large_buffer();
-    numbers::bytes(list, &mut space);
-    answered(w.property(blob, strings, name, texts::part(&space, 0, list.len())))
-}
-
-// Writes a property of numbers of 4 bytes; more of them than the table has fit no blob either.
-fn cells(w: FdtWriter, name: &[u8], list: &[u64], blob: &mut [u8], strings: &mut [u8]) -> Step {
-    let mut space = room::cells();
-    numbers::cells(list, &mut space);
-    answered(w.property_array_u32(
-        blob,
-        strings,
-        name,
-        numbers::front_cells(&space, list.len()),
-    ))
-}
-
-// Writes a property of numbers or bytes.
-fn counted(w: FdtWriter, verb: usize, line: &[u8], blob: &mut [u8], strings: &mut [u8]) -> Step {
-    let mut text = io::large_buffer();
-    let name = texts::name(line, verbs::past(line), &mut text);
-    if name.fault != faults::NONE {
-        return uncalled(w, name.fault, name.at);
-    }
-    let mut wide = room::wide();
-    let all = numbers::list(line, name.at, verb, &mut wide);
-    if all.fault != faults::NONE {
-        return uncalled(w, all.fault, all.at);
-    }
-    if all.n == 0 {
-        return uncalled(w, faults::NO_NUMBER, all.at);
-    }
-    let label = texts::part(&text, 0, name.n);
-    let list = numbers::front_wide(&wide, all.n);
-    match verb {
-        verbs::BYTES => raw(w, label, list, blob, strings),
-        verbs::U32 => cells(w, label, list, blob, strings),
-        _ => answered(w.property_array_u64(blob, strings, label, list)),
-    }
-}
-
-// Makes the call that a line asks for, if it needs no phandles.
-fn plain(w: FdtWriter, verb: usize, line: &[u8], blob: &mut [u8], strings: &mut [u8]) -> Step {
+// Makes the call that a line asks for, if it needs neither strings nor phandles.
+fn plain(w: FdtWriter, verb: usize, line: &[u8], blob: &mut [u8]) -> Step {
     match verb {
         verbs::BLANK => uncalled(w, faults::NONE, 0),
         verbs::RESERVE => uncalled(w, faults::LATE, line.len()),
         verbs::BOOT => boot(w, line),
         verbs::BEGIN => begin(w, line, blob),
         verbs::END => end(w, line, blob),
-        verbs::NULL => empty(w, line, blob, strings),
-        verbs::STRING | verbs::STRINGS => spelled(w, verb, line, blob, strings),
-        verbs::BYTES | verbs::U32 | verbs::U64 => counted(w, verb, line, blob, strings),
-        _ => uncalled(w, faults::NO_CALL, scan::start(line, 0)),
+        _ => uncalled(w, faults::NO_CALL, verbs::start(line)),
     }
 }
 
@@ -176,11 +224,23 @@ pub fn run(
     strings: &mut [u8],
     phandles: &mut [u32],
 ) -> Step {
-    if verb != verbs::PHANDLE {
-        return plain(w, verb, line, blob, strings);
+    match verb {
+        verbs::NULL..=verbs::U64 => property(w, verb, line, blob, strings),
+        verbs::PHANDLE => phandle(w, line, blob, strings, phandles),
+        _ => plain(w, verb, line, blob),
     }
+}
+
+// Writes a node's phandle.
+fn phandle(
+    w: FdtWriter,
+    line: &[u8],
+    blob: &mut [u8],
+    strings: &mut [u8],
+    phandles: &mut [u32],
+) -> Step {
     let mut one = [0; 1];
-    let all = numbers::few(line, verb, &mut one);
+    let all = numbers::few(line, verbs::PHANDLE, &mut one);
     if all.fault != faults::NONE {
         return uncalled(w, all.fault, all.at);
     }

@@ -4,6 +4,9 @@ use crate::faults::Got;
 use crate::scan;
 use crate::verbs;
 
+// The numbers of a line. As many as this fit no blob, even as bytes.
+pub type Wide = [u64; 65_536];
+
 // A number, and what is wrong with it.
 pub struct Found {
     pub value: u64,
@@ -110,48 +113,56 @@ fn read(word: &[u8], verb: usize) -> Found {
     n
 }
 
-// How far a list of numbers got.
-fn got(at: usize, n: usize, fault: usize) -> Got {
-    Got { at, n, fault }
+// The number at a place, for a call.
+pub fn next(line: &[u8], at: usize, verb: usize) -> Found {
+    if scan::ended(line, at) {
+        return wrong(faults::ENDED);
+    }
+    read(scan::word(line, at), verb)
 }
 
 // Writes the numbers of a line from a place on into the front of a table.
 pub fn list(line: &[u8], from: usize, verb: usize, out: &mut [u64]) -> Got {
-    let mut at = scan::start(line, from);
+    let mut at = from;
     let mut n = 0;
     while n < out.len() {
-        if scan::ended(line, at) {
-            return got(at, n, faults::NONE);
+        let found = next(line, at, verb);
+        if found.fault != faults::NONE {
+            return got(at, n, found.fault);
         }
-        let next = read(scan::word(line, at), verb);
-        if next.fault != faults::NONE {
-            return got(at, n, next.fault);
-        }
-        out[n] = next.value;
+        out[n] = found.value;
         n += 1;
-        at = scan::start(line, scan::end(line, at));
+        at = scan::next(line, at);
     }
-    got(
-        at,
-        n,
-        if scan::ended(line, at) {
-            faults::NONE
-        } else {
-            faults::FULL
-        },
-    )
+    got(at, n, faults::FULL)
 }
 
-// Writes the numbers of a call that takes so many as the table is long.
+// How far a list of numbers got.
+fn got(at: usize, count: usize, fault: usize) -> Got {
+    Got {
+        at,
+        n: 0,
+        count,
+        fault,
+    }
+}
+
+// Writes the numbers of a call that takes as many as the table is long.
 pub fn few(line: &[u8], verb: usize, out: &mut [u64]) -> Got {
-    let all = list(line, verbs::past(line), verb, out);
-    if all.fault == faults::FULL {
-        return got(all.at, all.n, faults::MORE);
+    let all = list(line, scan::next(line, verbs::start(line)), verb, out);
+    let fault = all.fault;
+    match fault {
+        faults::FULL => faults::ends(
+            all,
+            if scan::ended(line, all.at) {
+                faults::NONE
+            } else {
+                faults::MORE
+            },
+        ),
+        faults::ENDED => faults::ends(all, faults::NO_NUMBER),
+        _ => all,
     }
-    if all.fault == faults::NONE && all.n < out.len() {
-        return got(all.at, all.n, faults::NO_NUMBER);
-    }
-    all
 }
 
 // A number without what is above 32 bits.
@@ -160,7 +171,7 @@ pub fn low(n: u64) -> u32 {
 }
 
 // A number without what is above 8 bits.
-fn lowest(n: u64) -> u8 {
+pub fn lowest(n: u64) -> u8 {
     (n % 256) as u8
 }
 
@@ -173,13 +184,9 @@ pub fn cells(wide: &[u64], out: &mut [u32]) {
     }
 }
 
-// Writes numbers as bytes into the front of a buffer.
-pub fn bytes(wide: &[u64], out: &mut [u8]) {
-    let mut i = 0;
-    while i < wide.len() && i < out.len() {
-        out[i] = lowest(wide[i]);
-        i += 1;
-    }
+// The front of the numbers of a line.
+pub fn part(wide: &Wide, n: usize) -> &[u64] {
+    front_wide(wide, n)
 }
 
 // The front of a table of wide numbers, or all of it.
@@ -190,12 +197,6 @@ pub fn front_wide(t: &[u64], n: usize) -> &[u64] {
 
 // The front of a table of numbers of 4 bytes, or all of it.
 pub fn front_cells(t: &[u32], n: usize) -> &[u32] {
-    let from = 0;
-    if n < t.len() { &t[from..n] } else { t }
-}
-
-// The front of a table of lengths, or all of it.
-pub fn front_lengths(t: &[usize], n: usize) -> &[usize] {
     let from = 0;
     if n < t.len() { &t[from..n] } else { t }
 }

@@ -38,14 +38,9 @@ pub fn parted(line: &[u8], at: usize) -> bool {
     ended(line, at) || blank(peek(line, at))
 }
 
-// Where the next word begins, also one that begins with `#`, as a name may.
-pub fn name_start(line: &[u8], from: usize) -> usize {
-    run_end(line, from, true)
-}
-
 // Where the next word begins; the line's end where none or a comment follows.
 pub fn start(line: &[u8], from: usize) -> usize {
-    let at = name_start(line, from);
+    let at = run_end(line, from, true);
     if peek(line, at) == b'#' {
         line.len()
     } else {
@@ -53,12 +48,17 @@ pub fn start(line: &[u8], from: usize) -> usize {
     }
 }
 
-// Where a word ends.
-pub fn end(line: &[u8], from: usize) -> usize {
-    run_end(line, from, false)
-}
-
 // The word that begins at a place.
 pub fn word(line: &[u8], from: usize) -> &[u8] {
-    words::part(line, from, end(line, from))
+    words::part(line, from, run_end(line, from, false))
+}
+
+// Where the word after the one at a place begins.
+pub fn next(line: &[u8], from: usize) -> usize {
+    start(line, run_end(line, from, false))
+}
+
+// The same where that word may begin with `#`, as a name may.
+pub fn next_name(line: &[u8], from: usize) -> usize {
+    run_end(line, run_end(line, from, false), true)
 }

@@ -1,7 +1,6 @@
 // What is wrong, on a line of standard error.
 use crate::faults;
 use crate::scan;
-use crate::verbs;
 use fdt_lines::words;
 use libc::STDERR_FILENO;
 
@@ -39,75 +38,73 @@ fn word(s: &[u8]) {
     text(b"..");
 }
 
-// The call that a line asks for.
-fn call(verb: usize) {
-    match verb {
-        verbs::RESERVE => text(b"reserve"),
-        verbs::BOOT => text(b"boot"),
-        verbs::BEGIN => text(b"begin"),
-        verbs::END => text(b"end"),
-        verbs::PHANDLE => text(b"phandle"),
-        verbs::FINISH => text(b"finish"),
-        _ => text(b"property"),
+// Row k of a list of lines.
+fn row(list: &[u8], k: usize) -> &[u8] {
+    let mut at = 0;
+    let mut left = k;
+    while 0 < left {
+        at = words::next(list, at, b'\n');
+        left -= 1;
     }
+    words::piece(list, at, b'\n')
 }
 
-// What a refusal means.
-fn refusal(number: usize) {
-    match number {
-        1 => text(b"no node has begun yet"),
-        2 => text(b"a property stands before the node's children, and a node was ended last"),
-        5 => text(b"a byte 0 in a name or a string"),
-        6 => text(b"no node is open"),
-        7 => text(b"a node is still open"),
-        8 => text(b"a reservation of no bytes, or one that reaches the end of all addresses"),
-        9 => text(b"an address lies in two reservations"),
-        10 => text(b"not a node's name"),
-        11 => text(b"not a property's name"),
-        12 => text(b"nodes are at most 64 deep"),
-        13 => text(b"another node has this phandle"),
-        14 => text(b"no room in the blob"),
-        15 => text(b"no room for a new name in the string buffer"),
-        16 => text(b"no room for another phandle"),
-        17 => text(b"record and buffers do not fit"),
-        18 => text(b"the blob is finished"),
-        19 => text(b"more than 64 reservations"),
-        _ => text(b"too large"),
-    }
-}
+// What a refusal means, by its number.
+const REFUSALS: [u8; 561] = *b"\n\
+    no node has begun yet\n\
+    a node was ended last, and properties stand before the nodes in a node\n\
+    a value too large\n\
+    a blob too large\n\
+    a byte 0 in a name or a string\n\
+    no node is open\n\
+    a node is still open\n\
+    a reservation of no bytes, or one that reaches the last address\n\
+    an address lies in two reservations\n\
+    not a node's name\n\
+    not a property's name\n\
+    nodes are at most 64 deep\n\
+    another node has this phandle\n\
+    no room in the blob\n\
+    no room for a new name in the string buffer\n\
+    no room for another phandle\n\
+    record and buffers do not fit\n\
+    the blob is finished\n\
+    more than 64 reservations";
 
-// What is wrong with a line that is no call.
-fn fault(number: usize) {
-    match number {
-        faults::NO_CALL => text(b"no such call"),
-        faults::NO_NAME => text(b"a name is missing"),
-        faults::UNCLOSED => text(b"a string is not closed"),
-        faults::ESCAPE => text(b"no such escape"),
-        faults::JOINED => text(b"no space after a string"),
-        faults::NO_STRING => text(b"a string is missing"),
-        faults::STRING => text(b"not a string in double quotes"),
-        faults::NO_NUMBER => text(b"a number is missing"),
-        faults::NUMBER => text(b"not a number"),
-        faults::LARGE => text(b"a number too large for this call"),
-        faults::BYTE => text(b"not a byte of two hexadecimal digits"),
-        faults::MORE => text(b"more than this call takes"),
-        faults::FULL => text(b"more than a blob can hold"),
-        _ => text(b"reserve stands before all other calls"),
-    }
-}
+// What else can be wrong, in the order of its numbers.
+const FAULTS: [u8; 335] = *b"no such call\n\
+    reserve stands before all other calls\n\
+    more than this call takes\n\
+    more than a blob can hold\n\
+    a name is missing\n\
+    a string is missing\n\
+    a number is missing\n\
+    not a string in double quotes\n\
+    a string is not closed\n\
+    no space after a string\n\
+    no such escape\n\
+    not a number\n\
+    a number too large for this call\n\
+    not a byte of two hexadecimal digits";
 
 // A refusal: the call, the number, and what it means.
 fn refused(verb: usize, number: usize) {
-    call(verb);
+    text(words::word(
+        b"reserve boot begin end phandle property property property property property property - finish",
+        verb,
+    ));
     text(b" refused ");
     io::print_decimal(STDERR_FILENO, number as u64);
     text(b", ");
-    refusal(number);
+    text(row(&REFUSALS, number));
 }
 
 // What is wrong, and the word where it is.
 fn unread(line: &[u8], number: usize, at: usize) {
-    fault(number);
+    if number < faults::TOLD {
+        return;
+    }
+    text(row(&FAULTS, number - faults::TOLD));
     if !scan::ended(line, at) {
         text(b": ");
         word(scan::word(line, at));
@@ -119,7 +116,7 @@ pub fn stop(count: u64, line: &[u8], verb: usize, number: usize, at: usize) {
     text(b"line ");
     io::print_decimal(STDERR_FILENO, count);
     text(b": ");
-    if number < faults::PARSED {
+    if number < faults::TOLD {
         refused(verb, number);
     } else {
         unread(line, number, at);

@@ -33,9 +33,14 @@ pub const FINISH: usize = 12;
 // A line without a word.
 pub const BLANK: usize = 13;
 
+// Where the first word of a line begins.
+pub fn start(line: &[u8]) -> usize {
+    scan::start(line, 0)
+}
+
 // What a line asks for.
 pub fn asked(line: &[u8]) -> usize {
-    let at = scan::start(line, 0);
+    let at = start(line);
     if scan::ended(line, at) {
         return BLANK;
     }
@@ -44,9 +49,4 @@ pub fn asked(line: &[u8]) -> usize {
         NO_CALL,
         scan::word(line, at),
     )
-}
-
-// Where the first word of a line ends.
-pub fn past(line: &[u8]) -> usize {
-    scan::end(line, scan::start(line, 0))
 }

@@ -13,23 +13,14 @@ abbrev μ-loop : tie.MeasureT-loop
 loop-holds : tie.Need-loop-holds Inv-loop μ-loop
 loop-holds c = search needs
 
-quoted-requires : tie.Need-quoted-requires Inv-loop μ-loop
-quoted-requires c κs = search needs
-
-bare-requires : tie.Need-bare-requires Inv-loop μ-loop
-bare-requires c κs = search needs
+next-letter-requires : tie.Need-next-letter-requires Inv-loop μ-loop
+next-letter-requires c κs = search needs
 
 got-requires : tie.Need-got-requires Inv-loop μ-loop
 got-requires c κs = search needs
 
 returns : tie.Need-returns Inv-loop μ-loop
 returns c = search needs
-
-got-requires-2 : tie.Need-got-requires-2 Inv-loop μ-loop
-got-requires-2 c κs = search needs
-
-returns-2 : tie.Need-returns-2 Inv-loop μ-loop
-returns-2 c = search needs
 
 element-write-out : tie.Need-element-write-out Inv-loop μ-loop
 element-write-out c = search needs
@@ -43,11 +34,11 @@ loop-less c = search needs
 loop-again : tie.Need-loop-again Inv-loop μ-loop
 loop-again c = search needs
 
-got-requires-3 : tie.Need-got-requires-3 Inv-loop μ-loop
-got-requires-3 c κs = search needs
+got-requires-2 : tie.Need-got-requires-2 Inv-loop μ-loop
+got-requires-2 c κs = search needs
 
-returns-3 : tie.Need-returns-3 Inv-loop μ-loop
-returns-3 c = search needs
+returns-2 : tie.Need-returns-2 Inv-loop μ-loop
+returns-2 c = search needs
 
 pub put-spec : {M : Type 1} → statement M
 put-spec =
@@ -56,15 +47,12 @@ put-spec =
     Inv-loop
     μ-loop
     loop-holds
-    quoted-requires
-    bare-requires
+    next-letter-requires
     got-requires
     returns
-    got-requires-2
-    returns-2
     element-write-out
     add-n
     loop-less
     loop-again
-    got-requires-3
-    returns-3)
+    got-requires-2
+    returns-2)
