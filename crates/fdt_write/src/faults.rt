@@ -1,17 +1,15 @@
-// What can be wrong with a line, beside document 01's refusals, which have the numbers below 98.
+// What can be wrong with a line, so that it is no call.
 
 // Nothing is wrong.
 pub const NONE: usize = 0;
 
 // The line's end was met.
-pub const ENDED: usize = 98;
+pub const ENDED: usize = 1;
 
 // A word or a string is complete.
-pub const CLOSED: usize = 99;
+pub const CLOSED: usize = 2;
 
-// The least number of what is told as it stands, in the order of the sentences.
-pub const TOLD: usize = 100;
-
+// What is told: 100 and the place of the sentence in their list.
 pub const NO_CALL: usize = 100;
 
 pub const LATE: usize = 101;

@@ -2,6 +2,7 @@
 // the finished blob goes to standard output; of a list that is wrong or refused, one line goes to standard error instead.
 mod calls;
 mod faults;
+mod given;
 mod list;
 mod numbers;
 mod room;

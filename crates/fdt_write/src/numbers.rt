@@ -7,6 +7,9 @@ use crate::verbs;
 // The numbers of a line. As many as this fit no blob, even as bytes.
 pub type Wide = [u64; 65_536];
 
+// Numbers of 4 bytes. As many as this fit no blob.
+pub type Cells = [u32; 16_384];
+
 // A number, and what is wrong with it.
 pub struct Found {
     pub value: u64,
@@ -147,26 +150,8 @@ fn got(at: usize, count: usize, fault: usize) -> Got {
     }
 }
 
-// Writes the numbers of a call that takes as many as the table is long.
-pub fn few(line: &[u8], verb: usize, out: &mut [u64]) -> Got {
-    let all = list(line, scan::next(line, verbs::start(line)), verb, out);
-    let fault = all.fault;
-    match fault {
-        faults::FULL => faults::ends(
-            all,
-            if scan::ended(line, all.at) {
-                faults::NONE
-            } else {
-                faults::MORE
-            },
-        ),
-        faults::ENDED => faults::ends(all, faults::NO_NUMBER),
-        _ => all,
-    }
-}
-
 // A number without what is above 32 bits.
-pub fn low(n: u64) -> u32 {
+fn low(n: u64) -> u32 {
     (n % 0x1_0000_0000) as u32
 }
 
@@ -175,28 +160,28 @@ pub fn lowest(n: u64) -> u8 {
     (n % 256) as u8
 }
 
-// Writes numbers as numbers of 4 bytes into the front of a table.
-pub fn cells(wide: &[u64], out: &mut [u32]) {
+// Writes the first numbers of a line as numbers of 4 bytes; more of them than the table has fit no blob either.
+pub fn cells(wide: &Wide, n: usize, out: &mut Cells) {
     let mut i = 0;
-    while i < wide.len() && i < out.len() {
+    while i < 16_384 {
+        if n <= i {
+            return;
+        }
         out[i] = low(wide[i]);
         i += 1;
     }
 }
 
-// The front of the numbers of a line.
+// The front of the numbers of a line, or all of them.
 pub fn part(wide: &Wide, n: usize) -> &[u64] {
-    front_wide(wide, n)
+    let all = &wide[..];
+    let from = 0;
+    if n < all.len() { &all[from..n] } else { all }
 }
 
-// The front of a table of wide numbers, or all of it.
-pub fn front_wide(t: &[u64], n: usize) -> &[u64] {
+// The same of numbers of 4 bytes.
+pub fn front_cells(cells: &Cells, n: usize) -> &[u32] {
+    let all = &cells[..];
     let from = 0;
-    if n < t.len() { &t[from..n] } else { t }
-}
-
-// The front of a table of numbers of 4 bytes, or all of it.
-pub fn front_cells(t: &[u32], n: usize) -> &[u32] {
-    let from = 0;
-    if n < t.len() { &t[from..n] } else { t }
+    if n < all.len() { &all[from..n] } else { all }
 }

@@ -1,5 +1,4 @@
 // What is wrong, on a line of standard error.
-use crate::faults;
 use crate::scan;
 use fdt_lines::words;
 use libc::STDERR_FILENO;
@@ -87,8 +86,16 @@ const FAULTS: [u8; 335] = *b"no such call\n\
     a number too large for this call\n\
     not a byte of two hexadecimal digits";
 
-// A refusal: the call, the number, and what it means.
-fn refused(verb: usize, number: usize) {
+// The line that is told of.
+fn at_line(count: u64) {
+    text(b"line ");
+    io::print_decimal(STDERR_FILENO, count);
+    text(b": ");
+}
+
+// Tells a refusal: the line, the call, the number, and what it means.
+pub fn refused(count: u64, verb: usize, number: u32) {
+    at_line(count);
     text(words::word(
         b"reserve boot begin end phandle property property property property property property - finish",
         verb,
@@ -96,30 +103,17 @@ fn refused(verb: usize, number: usize) {
     text(b" refused ");
     io::print_decimal(STDERR_FILENO, number as u64);
     text(b", ");
-    text(row(&REFUSALS, number));
+    text(row(&REFUSALS, number as usize));
+    text(b"\n");
 }
 
-// What is wrong, and the word where it is.
-fn unread(line: &[u8], number: usize, at: usize) {
-    if number < faults::TOLD {
-        return;
-    }
-    text(row(&FAULTS, number - faults::TOLD));
+// Tells what is wrong with a line that is no call, and the word where it is.
+pub fn unread(count: u64, line: &[u8], fault: usize, at: usize) {
+    at_line(count);
+    text(row(&FAULTS, fault % 100));
     if !scan::ended(line, at) {
         text(b": ");
         word(scan::word(line, at));
-    }
-}
-
-// Tells what is wrong at a line.
-pub fn stop(count: u64, line: &[u8], verb: usize, number: usize, at: usize) {
-    text(b"line ");
-    io::print_decimal(STDERR_FILENO, count);
-    text(b": ");
-    if number < faults::TOLD {
-        refused(verb, number);
-    } else {
-        unread(line, number, at);
     }
     text(b"\n");
 }

@@ -1,25 +1,26 @@
--- `numbers::cells` is safe and ends: the index comes nearer to the list's end.
-use Prim.Native.Nat.{_-_}
-use mathlib.Core.Path.{_≡_}
-use lib.ListN.{length}
+-- `numbers::cells` is safe and ends: the index comes nearer to the table's end.
+use Prim.Native.Nat.{_≤_, _-_}
 use borrow.Author.Needs.{needs}
 use Rattle.fdt_write.proofs.numbers.cells.Statement.{statement}
 use Rattle.fdt_write.proofs.numbers.cells.Tie as tie
 
 abbrev Inv-loop : tie.InvT-loop
-Inv-loop wide out₀ i₀ out i = length out ≡ length out₀
+Inv-loop wide n out₀ i₀ out i = i ≤ 16384
 
 abbrev μ-loop : tie.MeasureT-loop
-μ-loop wide out₀ i₀ out i = length wide - i
+μ-loop wide n out₀ i₀ out i = 16384 - i
 
 loop-holds : tie.Need-loop-holds Inv-loop μ-loop
 loop-holds c = search needs
 
+returns : tie.Need-returns Inv-loop μ-loop
+returns c = search needs
+
 mul-low : tie.Need-mul-low Inv-loop μ-loop
 mul-low c = search needs
 
-shared-slice-read-low : tie.Need-shared-slice-read-low Inv-loop μ-loop
-shared-slice-read-low c = search needs
+element-copy-out-low : tie.Need-element-copy-out-low Inv-loop μ-loop
+element-copy-out-low c = search needs
 
 low-requires : tie.Need-low-requires Inv-loop μ-loop
 low-requires c κs = search needs
@@ -27,8 +28,8 @@ low-requires c κs = search needs
 mul-out : tie.Need-mul-out Inv-loop μ-loop
 mul-out c = search needs
 
-slice-write-out : tie.Need-slice-write-out Inv-loop μ-loop
-slice-write-out c = search needs
+element-write-out : tie.Need-element-write-out Inv-loop μ-loop
+element-write-out c = search needs
 
 add-i : tie.Need-add-i Inv-loop μ-loop
 add-i c = search needs
@@ -38,15 +39,6 @@ loop-less c = search needs
 
 loop-again : tie.Need-loop-again Inv-loop μ-loop
 loop-again c = search needs
-
-same-length : tie.Need-same-length Inv-loop μ-loop
-same-length c = search needs
-
-returns : tie.Need-returns Inv-loop μ-loop
-returns c = search needs
-
-same-length-2 : tie.Need-same-length-2 Inv-loop μ-loop
-same-length-2 c = search needs
 
 returns-2 : tie.Need-returns-2 Inv-loop μ-loop
 returns-2 c = search needs
@@ -58,15 +50,13 @@ cells-spec =
     Inv-loop
     μ-loop
     loop-holds
+    returns
     mul-low
-    shared-slice-read-low
+    element-copy-out-low
     low-requires
     mul-out
-    slice-write-out
+    element-write-out
     add-i
     loop-less
     loop-again
-    same-length
-    returns
-    same-length-2
     returns-2)
