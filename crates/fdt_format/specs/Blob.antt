@@ -1,5 +1,4 @@
 -- The bytes of a description (document 01, "The bytes"): header, reservations, structure, strings.
-use mathlib.Core.Path.{_≡_}
 use mathlib.Core.List.{List, [], _∷_, _++_}
 use Prim.Native.Nat.{ℕ, _+_, _<_, _^_}
 use lib.ListN.{length}

@@ -5,12 +5,15 @@ use lib.ListN.{length}
 use Rattle.fdt_bytes.specs.BigEndian.{cellBytes}
 use Rattle.fdt_bytes.specs.Padding.{zeros}
 
+-- the first word of every blob
 abbrev pub magic : ℕ
 magic = 0xd00dfeed
 
+-- the version of the format
 abbrev pub version : ℕ
 version = 17
 
+-- the oldest version that it can be read as
 abbrev pub lastCompatible : ℕ
 lastCompatible = 16
 

@@ -18,10 +18,11 @@ unfoldable pub pick : {A : Type 0} → Bool → A → A → A
 pick true a b = a
 pick false a b = b
 
--- the number that a token not in order, and a name offset that meets no 0, get from a reader (document 02, request 1)
+-- the number that a token out of order gets from a reader (document 02, request 1)
 abbrev pub disorder : ℕ
 disorder = 23
 
+-- and a name offset that meets no 0
 abbrev pub nameless : ℕ
 nameless = 24
 

@@ -45,6 +45,7 @@ pub data Request : Type 0 where
   to-finish : Request
   to-show : Request
 
+-- what each call asks for
 unfoldable pub asks : Call → Request
 asks new = to-open []
 asks (new-with-mem-reserv numbers) = to-open numbers

@@ -38,6 +38,7 @@ unfoldable pub nested : ℕ → List ℕ → List ℕ
 nested zero words = words
 nested (suc n) words = 1 ∷ 0 ∷ nested n (2 ∷ words)
 
+-- the nodes that these words tell
 unfoldable pub nest : ℕ → Nodes
 nest zero = no-more
 nest (suc n) = node [] [] (nest n) no-more
@@ -58,6 +59,7 @@ tails =
     ∷ 1 ∷ 0xaabbcc ∷ 3 ∷ 1 ∷ 0 ∷ 0x7deadbe ∷ 3 ∷ 4 ∷ 1 ∷ 5 ∷ 1 ∷ 0x6100ffff ∷ 3 ∷ 0 ∷ 6 ∷ 2 ∷ 1 ∷ 0x62403100 ∷ 2 ∷ 2 ∷ 9
     ∷ [])
 
+-- what it describes
 unfoldable pub tailsSay : Description
 tailsSay = record {
   reservations = reserved 4096 4096 ∷ reserved 0 1 ∷ [];

@@ -112,10 +112,11 @@ closes ended (begins name) = false
 closes ended (has p) = ended
 closes ended ends = true
 
--- after events
+-- the depth after events
 unfoldable pub depthOf : List Event → ℕ
 depthOf es = foldl deepens 0 es
 
+-- whether a node was ended last, after events
 unfoldable pub endedOf : List Event → Bool
 endedOf es = foldl closes false es
 
@@ -153,6 +154,7 @@ InRun (to-mark value) = Unit {0}
 InRun to-finish = Unit {0}
 InRun to-show = Unit {0}
 
+-- of every call
 unfoldable pub AllInRun : List Request → Type 0
 AllInRun [] = Unit {0}
 AllInRun (c ∷ cs) = InRun c × AllInRun cs

@@ -51,17 +51,19 @@ propertyIn name = numberOf (property (begunRecord fresh []) 256 (dirty 64) name 
 unfoldable pub openWith : List ℕ → ℕ
 openWith numbers = numberOf (opening 256 64 4 numbers .answer)
 
--- the record and the blob after opening with no reservations
+-- the record after opening with no reservations over so many bytes
 unfoldable pub openedOver : ℕ → Record
 openedOver n = opening n 0 0 [] .after
 
+-- the blob then
 unfoldable pub openedBlob : ℕ → List ℕ
 openedBlob n = openingBlob (dirty n) []
 
--- an empty run over so many bytes: what finish answers, and the blob that is shown
+-- what finish answers after an empty run over so many bytes
 unfoldable pub emptyRun : ℕ → ℕ
 emptyRun n = numberOf (finish (openedOver n) n [] .answer)
 
+-- the blob that is shown then
 unfoldable pub emptyBlob : ℕ → List ℕ
 emptyBlob n = shown (finish (openedOver n) n [] .after) (finishBlob (openedOver n) (openedBlob n) [])
 

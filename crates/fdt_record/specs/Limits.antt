@@ -13,9 +13,11 @@ stringsCeiling = 8192
 abbrev pub phandlesCeiling : ℕ
 phandlesCeiling = 256
 
+-- of reservations
 abbrev pub mostReservations : ℕ
 mostReservations = 64
 
+-- of the depth
 abbrev pub mostDepth : ℕ
 mostDepth = 64
 
