@@ -11,9 +11,9 @@ use Rattle.fdt_bytes.specs.BigEndian.{bigEndian, cellBytes}
 use Rattle.fdt_bytes.specs.Splice.{splice}
 use Rattle.fdt_bytes.proofs.BigEndian.{length-bigEndian}
 use Rattle.fdt_bytes.proofs.Splice.{length-splice, splice-splice}
-use Rattle.fdt_format.specs.Header.{structureStart, headerWords, headerBytes}
+use Rattle.fdt_header.specs.Header.{structureStart, headerWords, headerBytes}
 use Rattle.fdt_format.specs.Tokens.{finalToken, finalBytes}
-use Rattle.fdt_format.proofs.HeaderBytes.{length-header}
+use Rattle.fdt_header.proofs.HeaderBytes.{length-header}
 use Rattle.fdt_format.proofs.Tokens.{length-final}
 use Rattle.fdt_record.specs.declared.Answer.the-variants.{Done}
 use Rattle.fdt_record.specs.declared.Record.{Record}

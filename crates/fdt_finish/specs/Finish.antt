@@ -6,7 +6,7 @@ use Prim.Native.Nat.{ℕ, _+_}
 use lib.Dec.{eqb}
 use lib.ListN.{length, take}
 use Rattle.fdt_bytes.specs.Splice.{splice}
-use Rattle.fdt_format.specs.Header.{headerBytes}
+use Rattle.fdt_header.specs.Header.{headerBytes}
 use Rattle.fdt_format.specs.Tokens.{finalBytes}
 use Rattle.fdt_record.specs.declared.Answer.{Answer}
 use Rattle.fdt_record.specs.declared.Answer.the-variants.{UnclosedNode, BlobRoom}

@@ -2,11 +2,11 @@
 ghost use mathlib.Core.Path.{_≡_};
 ghost use Prim.Native.Nat.{_+_, _≤_, _<_, _^_};
 ghost use lib.ListN.{length};
-ghost use Rattle.fdt_format.specs.Header.{structureStart};
+ghost use Rattle.fdt_header.specs.Header.{structureStart};
 ghost use Rattle.fdt_finish.specs.Boot.{boot};
 ghost use Rattle.fdt_finish.specs.Finish.{finishAnswer, finishedBlob, FinishOutcome};
 ghost use Rattle.fdt_finish.specs.Shown.{shown};
-use fdt_format::Header;
+use fdt_header::Header;
 use fdt_record::Answer;
 use fdt_record::Outcome;
 use fdt_record::Record;
@@ -58,7 +58,7 @@ fn put_finish(w: Record, blob: &mut [u8], strings: &[u8])
     fdt_bytes::update_u32(blob, end, FDT_END);
     fdt_bytes::bytes_at(blob, at, &strings[..size]);
     let header = Header {
-        off_dt_struct: fdt_format::structure_start(w.reservations) as u32,
+        off_dt_struct: fdt_header::structure_start(w.reservations) as u32,
         off_dt_strings: at as u32,
         size_dt_strings: size as u32,
         boot_cpuid_phys: w.boot_cpuid_phys,

@@ -10,7 +10,7 @@ use Rattle.fdt_bytes.specs.Padding.{padding, zeros, padded}
 use Rattle.fdt_strings.specs.Entries.{entry, joined, same, firstFrom, NoZero, no-byte, next-byte}
 use Rattle.fdt_format.specs.Description.{_≔_, no-more, node, reserved, Description}
 use Rattle.fdt_format.specs.Events.{propertyEvents, events}
-use Rattle.fdt_format.specs.Header.{reservationBytes, headerWords, headerBytes}
+use Rattle.fdt_header.specs.Header.{reservationBytes, headerWords, headerBytes}
 use Rattle.fdt_format.specs.Tokens.{beginBytes, propertyBytes, endBytes, finalBytes}
 use Rattle.fdt_format.specs.Reading.{reading}
 use Rattle.fdt_format.specs.Blob.{orAtEnd, withName, namesFrom, namesOf, placeOf, offsetOf, eventBytes, structureBytes, numbersOf, blobFrom, blobOf, Plain, AllPlain, AllTold, WellFormed}

@@ -7,7 +7,7 @@ use native.Mathlib.Omega.{arith}
 use borrow.Author.Tests.{eq-eqb, le-leb}
 use lib.ListN.{length, getD}
 use Rattle.fdt_format.specs.declared.Areas.{Areas}
-use Rattle.fdt_format.specs.Header.{magic, version, lastCompatible, headerSize, structureStart, headerWords, headerBytes}
+use Rattle.fdt_header.specs.Header.{magic, version, lastCompatible, headerSize, structureStart, headerWords, headerBytes}
 use Rattle.fdt_format.specs.Step.{wordAt}
 use Rattle.fdt_format.specs.Reading.{areasOf, goodHeader}
 use Rattle.fdt_format.proofs.Words.{Holds, cell-at}

@@ -1,5 +1,4 @@
 pub mod Example
-pub mod HeaderBytes
 pub mod HeaderRead
 pub mod Named
 pub mod Nested

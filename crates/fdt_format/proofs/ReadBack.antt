@@ -11,11 +11,11 @@ use Rattle.fdt_strings.specs.Entries.{joined}
 use Rattle.fdt_format.specs.declared.Areas.{Areas}
 use Rattle.fdt_format.specs.Description.{Reservation, Description}
 use Rattle.fdt_format.specs.Events.{Event, events, nodesOf}
-use Rattle.fdt_format.specs.Header.{headerSize, structureStart, reservationBytes, headerBytes}
+use Rattle.fdt_header.specs.Header.{headerSize, structureStart, reservationBytes, headerBytes}
 use Rattle.fdt_format.specs.Tokens.{finalBytes}
 use Rattle.fdt_format.specs.Reading.{areasOf, described, readReservations, readNodes, reading}
 use Rattle.fdt_format.specs.Blob.{namesOf, structureBytes, numbersOf, blobFrom, blobOf, AllPlain, AllTold, WellFormed}
-use Rattle.fdt_format.proofs.HeaderBytes.{length-header}
+use Rattle.fdt_header.proofs.HeaderBytes.{length-header}
 use Rattle.fdt_format.proofs.HeaderRead.{areasFrom, areas-read, header-good}
 use Rattle.fdt_format.proofs.Nodes.{Accepted, nodes-events, accepted-events}
 use Rattle.fdt_format.proofs.ReservationsRead.{length-reservations, reservations-read}

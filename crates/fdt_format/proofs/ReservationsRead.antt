@@ -13,7 +13,7 @@ use Rattle.fdt_bytes.specs.Padding.{zeros}
 use Rattle.fdt_bytes.proofs.BigEndian.{length-cells, cells-append}
 use Rattle.fdt_bytes.proofs.Padding.{length-zeros}
 use Rattle.fdt_format.specs.Description.{Reservation, reserved}
-use Rattle.fdt_format.specs.Header.{reservationBytes}
+use Rattle.fdt_header.specs.Header.{reservationBytes}
 use Rattle.fdt_format.specs.Reading.{wideAt, reservation, reservationsAt}
 use Rattle.fdt_format.specs.Blob.{numbersOf, AllTold}
 use Rattle.fdt_format.proofs.Walks.{skip, hit}

@@ -8,7 +8,7 @@ use Rattle.fdt_strings.specs.declared.Found.the-variants.{At, Nothing}
 use Rattle.fdt_strings.specs.Entries.{firstFrom, joined, NoZero}
 use Rattle.fdt_format.specs.Description.{Property, _≔_, Reservation, reserved, Description}
 use Rattle.fdt_format.specs.Events.{Event, begins, has, ends, events}
-use Rattle.fdt_format.specs.Header.{structureStart, reservationBytes, headerBytes}
+use Rattle.fdt_header.specs.Header.{structureStart, reservationBytes, headerBytes}
 use Rattle.fdt_format.specs.Tokens.{beginBytes, propertyBytes, endBytes, finalBytes}
 
 -- names as they are where one was found among them, otherwise with it at the end

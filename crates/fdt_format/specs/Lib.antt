@@ -1,7 +1,6 @@
 pub mod Blob
 pub mod Description
 pub mod Events
-pub mod Header
 pub mod Reading
 pub mod Step
 pub mod Tokens

@@ -10,7 +10,7 @@ use Rattle.fdt_format.specs.declared.Areas.{Areas}
 use Rattle.fdt_format.specs.declared.Entry.{Entry}
 use Rattle.fdt_format.specs.Description.{Property, _≔_, Nodes, Reservation, reserved, Description}
 use Rattle.fdt_format.specs.Events.{Event, begins, has, ends, nodesOf}
-use Rattle.fdt_format.specs.Header.{magic, version, lastCompatible, headerSize}
+use Rattle.fdt_header.specs.Header.{magic, version, lastCompatible, headerSize}
 use Rattle.fdt_format.specs.Step.{pick, wordAt}
 use Rattle.fdt_format.specs.Tokens.{beginToken, endToken}
 use Rattle.fdt_format.specs.Walk.{Walk, bad, good, walk, start}

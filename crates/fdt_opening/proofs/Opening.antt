@@ -15,7 +15,7 @@ use Rattle.fdt_bytes.proofs.Padding.{length-zeros}
 use Rattle.fdt_bytes.proofs.Splice.{length-splice, splice-three}
 use Rattle.fdt_reserve.specs.Overlap.{Overlap}
 use Rattle.fdt_reserve.proofs.Overlap.{overlapping-exact}
-use Rattle.fdt_format.specs.Header.{headerSize, structureStart, reservationBytes}
+use Rattle.fdt_header.specs.Header.{headerSize, structureStart, reservationBytes}
 use Rattle.fdt_record.specs.declared.Answer.{Answer}
 use Rattle.fdt_record.specs.declared.Answer.the-variants.{Done}
 use Rattle.fdt_record.specs.declared.Outcome.{Outcome}

@@ -9,7 +9,7 @@ use Rattle.fdt_bytes.specs.Padding.{zeros}
 use Rattle.fdt_bytes.specs.Splice.{splice}
 use Rattle.fdt_reserve.specs.Entry.{invalid}
 use Rattle.fdt_reserve.specs.Overlap.{start, size, some, overlapping}
-use Rattle.fdt_format.specs.Header.{headerSize, structureStart, reservationBytes}
+use Rattle.fdt_header.specs.Header.{headerSize, structureStart, reservationBytes}
 use Rattle.fdt_record.specs.declared.Answer.{Answer}
 use Rattle.fdt_record.specs.declared.Answer.the-variants.{Misfit, TooManyReservations, InvalidMemoryReservation, OverlappingMemoryReservations, BlobRoom}
 use Rattle.fdt_record.specs.declared.Outcome.{Outcome}

@@ -4,7 +4,7 @@ ghost use Prim.Native.Nat.{_+_, _*_, _≤_};
 ghost use lib.ListN.{length};
 ghost use Rattle.fdt_bytes.specs.Splice.{splice};
 ghost use Rattle.fdt_opening.specs.Opening.{someInvalid, openingAnswer, openingBytes, openedRecord, closedRecord, OpeningOutcome};
-use fdt_format::Header;
+use fdt_header::Header;
 use fdt_record::Answer;
 use fdt_record::Outcome;
 use fdt_record::Record;
@@ -44,7 +44,7 @@ fn opening_tests(lent: usize, mem_reservations: &[u64]) -> Answer
     if fdt_reserve::check_overlapping(mem_reservations) {
         return Answer::OverlappingMemoryReservations;
     }
-    if fdt_record::usable_length(fdt_record::BLOB_CEILING, lent) < fdt_format::structure_start(n) {
+    if fdt_record::usable_length(fdt_record::BLOB_CEILING, lent) < fdt_header::structure_start(n) {
         return Answer::BlobRoom;
     }
     Answer::Done
@@ -60,7 +60,7 @@ fn write_mem_rsvmap(blob: &mut [u8], mem_reservations: &[u64])
     fdt_bytes::zeros_at(
         blob,
         Header::SIZE + 8 * mem_reservations.len(),
-        fdt_format::RESERVATION_SIZE,
+        fdt_header::RESERVATION_SIZE,
     );
 }
 
@@ -72,7 +72,7 @@ fn opened(blob: usize, strings: usize, phandles: usize, mem_reservations: &[u64]
     let n = mem_reservations.len() / 2;
     Record {
         blob_room: fdt_record::usable_length(fdt_record::BLOB_CEILING, blob),
-        blob_used: fdt_format::structure_start(n),
+        blob_used: fdt_header::structure_start(n),
         strings_room: fdt_record::usable_length(fdt_record::STRINGS_CEILING, strings),
         strings_used: 0,
         phandles_room: fdt_record::usable_length(fdt_record::PHANDLES_CEILING, phandles),

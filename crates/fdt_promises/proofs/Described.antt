@@ -13,7 +13,7 @@ use Rattle.fdt_values.specs.Value.{Value, valueBytes}
 use Rattle.fdt_format.specs.Blob.{namesOf, structureBytes, eventsSize, blobFrom, blobOf, WellFormed}
 use Rattle.fdt_format.specs.Description.{_≔_, Nodes, Description}
 use Rattle.fdt_format.specs.Events.{Event, has, events, nodesOf}
-use Rattle.fdt_format.specs.Header.{structureStart}
+use Rattle.fdt_header.specs.Header.{structureStart}
 use Rattle.fdt_format.specs.Reading.{reading}
 use Rattle.fdt_format.proofs.ReadBack.{length-from, read-blob}
 use Rattle.fdt_format.proofs.Structure.{structure-size}

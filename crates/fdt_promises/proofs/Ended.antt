@@ -20,9 +20,9 @@ use Rattle.fdt_reserve.proofs.Overlap.{some-at}
 use Rattle.fdt_format.specs.Blob.{namesOf, structureBytes, eventsSize, numbersOf, blobFrom, blobOf, AllPlain, AllTold, WellFormed}
 use Rattle.fdt_format.specs.Description.{Nodes, Reservation, Description}
 use Rattle.fdt_format.specs.Events.{Event, events, nodesOf}
-use Rattle.fdt_format.specs.Header.{headerSize, structureStart, reservationBytes, headerBytes}
+use Rattle.fdt_header.specs.Header.{headerSize, structureStart, reservationBytes, headerBytes}
 use Rattle.fdt_format.specs.Tokens.{finalBytes}
-use Rattle.fdt_format.proofs.HeaderBytes.{length-header}
+use Rattle.fdt_header.proofs.HeaderBytes.{length-header}
 use Rattle.fdt_format.proofs.Nodes.{Accepted, described-by}
 use Rattle.fdt_format.proofs.Structure.{structure-size}
 use Rattle.fdt_format.proofs.Tokens.{length-final}

@@ -18,7 +18,7 @@ use Rattle.fdt_values.specs.Value.{Value, valueBytes}
 use Rattle.fdt_format.specs.Blob.{namesFrom, namesOf, withName, offsetOf, eventBytes, structureBytes, eventSize, eventsSize, Plain, AllPlain}
 use Rattle.fdt_format.specs.Description.{_≔_}
 use Rattle.fdt_format.specs.Events.{Event, begins, has, ends}
-use Rattle.fdt_format.specs.Header.{headerSize, structureStart, reservationBytes}
+use Rattle.fdt_header.specs.Header.{headerSize, structureStart, reservationBytes}
 use Rattle.fdt_format.specs.Tokens.{beginBytes, propertyBytes, endBytes}
 use Rattle.fdt_format.proofs.Nodes.{Accepted}
 use Rattle.fdt_format.proofs.Strings.{names-snoc, names-plain}

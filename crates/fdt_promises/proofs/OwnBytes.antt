@@ -14,7 +14,7 @@ use Rattle.fdt_strings.specs.declared.Interned.the-variants as place
 use Rattle.fdt_strings.specs.Entries.{entry}
 use Rattle.fdt_strings.specs.Interned.{interned}
 use Rattle.fdt_strings.proofs.Places.{new-placed}
-use Rattle.fdt_format.specs.Header.{headerSize, headerBytes}
+use Rattle.fdt_header.specs.Header.{headerSize, headerBytes}
 use Rattle.fdt_format.specs.Tokens.{beginBytes, endBytes, finalBytes}
 use Rattle.fdt_format.proofs.Tokens.{length-end, length-final, length-property}
 use Rattle.fdt_values.specs.Value.{Value, valueBytes}
@@ -29,7 +29,7 @@ use Rattle.fdt_properties.proofs.Places.{settled}
 use Rattle.fdt_properties.proofs.Property.{property-fits}
 use Rattle.fdt_finish.specs.Finish.{usedStrings, finishAnswer, finish, finishedBlob, finishBlob, FinishOutcome}
 use Rattle.fdt_finish.proofs.Finishing.{finish-fits}
-use Rattle.fdt_format.proofs.HeaderBytes.{length-header}
+use Rattle.fdt_header.proofs.HeaderBytes.{length-header}
 use Rattle.fdt_opening.specs.Opening.{openingAnswer, openingBytes, opening, OpeningOutcome}
 use Rattle.fdt_opening.proofs.Opening.{opened-fits, length-openingBytes, accepted-blob}
 use Rattle.fdt_nodes.specs.declared.Begun.{Begun}

@@ -31,9 +31,9 @@ use Rattle.fdt_record.proofs.Rows.{NoneHolds, Refusals, exactly, refusals-more,
 use Rattle.fdt_properties.specs.Property.{placeOf, offsetOf, stored, written, stateRows, nameRows, propertyRows, propertyAnswer, propertyRecord, property, propertyBlob, propertyStrings}
 use Rattle.fdt_properties.proofs.Property.{state-refusals, PropertyFits, property-fits}
 use Rattle.fdt_properties.proofs.Steps.{state-fits}
-use Rattle.fdt_format.specs.Header.{headerSize, headerBytes}
+use Rattle.fdt_header.specs.Header.{headerSize, headerBytes}
 use Rattle.fdt_format.specs.Tokens.{beginBytes, propertyBytes, endBytes, finalBytes}
-use Rattle.fdt_format.proofs.HeaderBytes.{length-header}
+use Rattle.fdt_header.proofs.HeaderBytes.{length-header}
 use Rattle.fdt_format.proofs.Tokens.{length-property, length-end, length-final}
 use Rattle.fdt_opening.specs.Opening.{openingRows, openingAnswer, openedRecord, openingBytes, opening, openingBlob}
 use Rattle.fdt_opening.proofs.Opening.{opened-fits, length-openingBytes}

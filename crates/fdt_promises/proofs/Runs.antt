@@ -13,7 +13,7 @@ use Rattle.fdt_bytes.proofs.Splice.{length-splice}
 use Rattle.fdt_strings.specs.Entries.{joined}
 use Rattle.fdt_format.specs.Blob.{namesFrom, namesOf, structureBytes, eventsSize, AllPlain}
 use Rattle.fdt_format.specs.Events.{Event}
-use Rattle.fdt_format.specs.Header.{headerSize, structureStart, reservationBytes}
+use Rattle.fdt_header.specs.Header.{headerSize, structureStart, reservationBytes}
 use Rattle.fdt_format.proofs.Nodes.{Accepted}
 use Rattle.fdt_record.specs.declared.Answer.{Answer}
 use Rattle.fdt_record.specs.declared.Answer.the-variants.{Done}

@@ -11,7 +11,7 @@ use Rattle.fdt_reserve.specs.Overlap.{start, size, some, share, overlapping}
 use Rattle.fdt_strings.specs.Entries.{entry, inFront, entries, same, firstFrom, findString}
 use Rattle.fdt_strings.specs.Interned.{place, orElse, interned}
 use Rattle.fdt_format.specs.Tokens.{beginBytes, propertyBytes, finalBytes}
-use Rattle.fdt_format.specs.Header.{reservationBytes, headerWords, headerBytes}
+use Rattle.fdt_header.specs.Header.{reservationBytes, headerWords, headerBytes}
 use Rattle.fdt_values.specs.Value.{valueBytes, misfitValue, zeroValue}
 use Rattle.fdt_record.specs.Answers.{accepts}
 use Rattle.fdt_record.specs.Limits.{usable}

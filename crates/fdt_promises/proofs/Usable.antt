@@ -10,7 +10,7 @@ use lib.Dec.{eqb, ltb}
 use lib.ListN.{length, take, drop, getD, set, length-drop, length-set}
 use lib.Seq.{length-take-le, take-take, take-add, take-append-add, drop-at, getD-take, take-set-lt}
 use Rattle.fdt_bytes.proofs.Splice.{length-splice}
-use Rattle.fdt_format.specs.Header.{structureStart}
+use Rattle.fdt_header.specs.Header.{structureStart}
 use Rattle.fdt_bytes.specs.Splice.{over, splice}
 use Rattle.fdt_record.specs.declared.Answer.{Answer}
 use Rattle.fdt_record.specs.declared.Record.{Record}

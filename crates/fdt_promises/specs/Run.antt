@@ -11,7 +11,7 @@ use Rattle.fdt_values.specs.Value.{valueBytes}
 use Rattle.fdt_format.specs.Blob.{namesOf, structureBytes, eventsSize}
 use Rattle.fdt_format.specs.Description.{_≔_, Nodes, Reservation, reserved, Description}
 use Rattle.fdt_format.specs.Events.{Event, begins, has, ends, nodesOf}
-use Rattle.fdt_format.specs.Header.{headerSize, structureStart, reservationBytes}
+use Rattle.fdt_header.specs.Header.{headerSize, structureStart, reservationBytes}
 use Rattle.fdt_record.specs.declared.Answer.the-variants.{Done}
 use Rattle.fdt_record.specs.declared.Record.{Record}
 use Rattle.fdt_record.specs.Answers.{upon}

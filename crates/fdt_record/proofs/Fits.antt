@@ -8,7 +8,7 @@ use native.Mathlib.Omega.{arith}
 use borrow.Author.Tests.{eqb-true, ltb-false, not-false}
 use lib.Dec.{eqb, ltb}
 use lib.ListN.{length, getD}
-use Rattle.fdt_format.specs.Header.{structureStart}
+use Rattle.fdt_header.specs.Header.{structureStart}
 use Rattle.fdt_record.specs.declared.Record.{Record}
 use Rattle.fdt_record.specs.Limits.{blobCeiling, stringsCeiling, phandlesCeiling, mostReservations, mostDepth, usable}
 use Rattle.fdt_record.specs.Misfits.{misfitRecord, misfitRoom, misfitBlob, misfitStrings, misfitPhandles, noRoom}

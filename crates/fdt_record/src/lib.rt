@@ -142,10 +142,10 @@ pub fn misfit_blob(w: Record, lent: usize) -> bool
     if w.blob_used % 4 != 0 {
         return true;
     }
-    if w.blob_used < fdt_format::STRUCTURE_START {
+    if w.blob_used < fdt_header::STRUCTURE_START {
         return true;
     }
-    (w.blob_used - fdt_format::STRUCTURE_START) / fdt_format::RESERVATION_SIZE < w.reservations
+    (w.blob_used - fdt_header::STRUCTURE_START) / fdt_header::RESERVATION_SIZE < w.reservations
 }
 
 // Whether the record does not fit these strings.

@@ -5,7 +5,7 @@ use Prim.Native.Nat.{ℕ}
 use borrow.Author.Needs.{needs}
 use borrow.Author.Tests.{eq-eqb, ne-eqb, lt-ltb, le-ltb}
 use lib.ListN.{drop}
-use Rattle.fdt_format.specs.Header.{structureStart}
+use Rattle.fdt_header.specs.Header.{structureStart}
 use Rattle.fdt_reserve.proofs.Overlap.{overlap-told}
 use Rattle.fdt_record.specs.Rows.{first}
 use Rattle.fdt_record.proofs.Rows.{skip, hit}

@@ -3,7 +3,7 @@ use mathlib.Core.Path.{_≡_, sym, _∙_}
 use mathlib.Core.Bool.{false}
 use Prim.Native.Nat.{_-_, _/_, _%_}
 use borrow.Author.Tests.{eq-eqb, ne-eqb, lt-ltb}
-use Rattle.fdt_format.specs.Header.{structureStart}
+use Rattle.fdt_header.specs.Header.{structureStart}
 use Rattle.fdt_record.specs.Limits.{blobCeiling}
 use Rattle.fdt_record.specs.Misfits.{misfitRoom, misfitBlob}
 use Rattle.fdt_bytes.proofs.Tests.{same-test}

@@ -1,8 +1,8 @@
 -- `words` meets its contract: the words are the definition's, where the structure begins as it says.
 use borrow.Author.Needs.{needs}
-use Rattle.fdt_format.proofs.HeaderBytes.{words-by-start}
-use Rattle.fdt_format.proofs.Header.words.Statement.{statement}
-use Rattle.fdt_format.proofs.Header.words.Tie as tie
+use Rattle.fdt_header.proofs.HeaderBytes.{words-by-start}
+use Rattle.fdt_header.proofs.Header.words.Statement.{statement}
+use Rattle.fdt_header.proofs.Header.words.Tie as tie
 
 add-t2 : tie.Need-add-t2
 add-t2 c = search needs

@@ -4,7 +4,7 @@ use mathlib.Core.List.{[], _∷_}
 use Prim.Native.Nat.{ℕ, _+_, _-_}
 use lib.ListN.{length}
 use Rattle.fdt_bytes.proofs.BigEndian.{length-cells}
-use Rattle.fdt_format.specs.Header.{magic, version, lastCompatible, headerSize, structureStart, headerWords, headerBytes}
+use Rattle.fdt_header.specs.Header.{magic, version, lastCompatible, headerSize, structureStart, headerWords, headerBytes}
 
 module _ (n strings stringsSize boot : ℕ) where
   pub words-by-start : {start : ℕ} → start ≡ structureStart n → (magic ∷ (strings + stringsSize) ∷ start ∷ strings ∷ headerSize ∷ version ∷ lastCompatible ∷ boot ∷ stringsSize ∷ (strings - start) ∷ []) ≡ headerWords n strings stringsSize boot
