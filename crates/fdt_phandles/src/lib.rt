@@ -3,7 +3,8 @@ ghost use mathlib.Core.Path.{_≡_};
 ghost use Prim.Native.Nat.{_≤_};
 ghost use lib.ListN.{length, take};
 ghost use Rattle.fdt_names.specs.Names.{oneOf};
-ghost use Rattle.fdt_phandles.specs.Phandle.{recordAnswer, PhandleOutcome};
+ghost use Rattle.fdt_phandles.specs.Phandle.{phandleName, phandleValue, recordAnswer, PhandleOutcome};
+ghost use Rattle.fdt_properties.specs.Property.{PropertyOutcome};
 use fdt_record::Answer;
 use fdt_record::Outcome;
 use fdt_record::Record;
@@ -47,6 +48,23 @@ fn record_tests(w: Record, lent: usize, strings: &[u8], phandles: &[u32], val: u
     Answer::Done
 }
 
+// Writes the property of a phandle.
+fn put_phandle(w: Record, blob: &mut [u8], strings: &mut [u8], val: u32) -> Outcome
+    ensures { λ r. ⌜ PropertyOutcome w (now (blob .entry)) (now (strings .entry)) phandleName (phandleValue val) r (now (blob .exit)) (now (strings .exit)) ⌝ }
+{
+    fdt_properties::write_property(
+        w,
+        blob,
+        strings,
+        &PHANDLE,
+        Kind::Cells,
+        &[],
+        &[val],
+        &[],
+        &[],
+    )
+}
+
 // Records a phandle and writes its property; the value is recorded even if the property is then refused.
 pub fn property_phandle(
     w: Record,
@@ -65,15 +83,5 @@ pub fn property_phandle(
     phandles[count] = val;
     let mut recorded = w;
     recorded.phandles_used = count + 1;
-    fdt_properties::write_property(
-        recorded,
-        blob,
-        strings,
-        &PHANDLE,
-        Kind::Cells,
-        &[],
-        &[val],
-        &[],
-        &[],
-    )
+    put_phandle(recorded, blob, strings, val)
 }

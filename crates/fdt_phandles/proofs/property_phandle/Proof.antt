@@ -3,7 +3,7 @@ use mathlib.Core.Path.{sym, _∙_}
 use borrow.Author.Tests.{not-true, not-false}
 use lib.ListN.{length}
 use Rattle.fdt_record.proofs.Answers.{accepts-done, left-accepted, left-refused}
-use Rattle.fdt_phandles.specs.Phandle.{phandleName, phandleValue, recorded, phandle, phandleBlob, phandleStrings, phandleTable}
+use Rattle.fdt_phandles.specs.Phandle.{recorded, phandle, phandleBlob, phandleStrings, phandleTable}
 use Rattle.fdt_phandles.proofs.Phandles.{RecordFits, record-fits, refused-outcome}
 use borrow.Author.Needs.{needs}
 use native.Mathlib.Omega.{arith}
@@ -51,23 +51,8 @@ slice-write-phandles c = let f = went c in omega (arith, f .room, f .phandles .w
 add-recorded : tie.Need-add-recorded
 add-recorded c = let f = went c in omega (arith, f .room, f .phandles .small)
 
-slice-aggregate-write-property : tie.Need-slice-aggregate-write-property
-slice-aggregate-write-property c = search needs
-
-slice-aggregate-write-property-2 : tie.Need-slice-aggregate-write-property-2
-slice-aggregate-write-property-2 c = search needs
-
-slice-aggregate-write-property-3 : tie.Need-slice-aggregate-write-property-3
-slice-aggregate-write-property-3 c = search needs
-
-slice-aggregate-write-property-4 : tie.Need-slice-aggregate-write-property-4
-slice-aggregate-write-property-4 c = search needs
-
-slice-aggregate-write-property-5 : tie.Need-slice-aggregate-write-property-5
-slice-aggregate-write-property-5 c = search needs
-
-write-property-requires : tie.Need-write-property-requires
-write-property-requires c κs = search needs
+put-phandle-requires : tie.Need-put-phandle-requires
+put-phandle-requires c κs = search needs
 
 same-length-3 : tie.Need-same-length-3
 same-length-3 c = search needs
@@ -79,11 +64,11 @@ same-length-5 : tie.Need-same-length-5
 same-length-5 c = search needs
 
 returns-2 : tie.Need-returns-2
-unfolding phandleName phandleValue recorded phandle phandleBlob phandleStrings phandleTable
+unfolding recorded phandle phandleBlob phandleStrings phandleTable
 returns-2 c =
-    let told = c .before .before .before .before .before .before .before .before .before .before .before .before .before .before .record-tests .ensures in
-    let t = sym (c .before .before .before .before .before .before .before .before .before .before .before .before .before .accepted .ensures) ∙ not-false _ (c .before .before .before .before .before .before .before .before .before .before .before .before .if1 .left) in
-    let wrote = c .before .before .before .before .write-property .ensures in
+    let told = c .before .before .before .before .before .before .before .before .before .record-tests .ensures in
+    let t = sym (c .before .before .before .before .before .before .before .before .accepted .ensures) ∙ not-false _ (c .before .before .before .before .before .before .before .if1 .left) in
+    let wrote = c .before .before .before .before .put-phandle .ensures in
     record {
       result = wrote .result ∙ left-accepted _ _ told _ _ t;
       bytes = wrote .bytes ∙ left-accepted _ _ told _ _ t;
@@ -103,12 +88,7 @@ property-phandle-spec =
     mul-phandles
     slice-write-phandles
     add-recorded
-    slice-aggregate-write-property
-    slice-aggregate-write-property-2
-    slice-aggregate-write-property-3
-    slice-aggregate-write-property-4
-    slice-aggregate-write-property-5
-    write-property-requires
+    put-phandle-requires
     same-length-3
     same-length-4
     same-length-5
