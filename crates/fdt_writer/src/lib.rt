@@ -12,6 +12,7 @@ ghost use Rattle.fdt_finish.specs.Boot.{boot};
 ghost use Rattle.fdt_finish.specs.Finish.{FinishOutcome};
 ghost use Rattle.fdt_finish.specs.Shown.{shown};
 ghost use Rattle.fdt_writer.specs.Told.{told, begun};
+use fdt_nodes::Begun;
 use fdt_nodes::FdtWriterNode;
 use fdt_record::Answer;
 use fdt_record::Outcome;
@@ -47,6 +48,20 @@ fn wrapped(o: Outcome) -> Answered
     }
 }
 
+// The same of beginning a node.
+fn wrapped_node(o: Begun) -> NodeAnswered
+    ensures { λ r. ⌜ begun r ≡ o ⌝ }
+{
+    let answer = o.answer;
+    let handle = o.handle;
+    let after = o.after;
+    NodeAnswered {
+        answer,
+        handle,
+        writer: FdtWriter(after),
+    }
+}
+
 impl FdtWriter {
     // Opens a writer over a blob, a string buffer and a table of phandles.
     pub fn new(blob: &mut [u8], strings: &[u8], phandles: &[u32]) -> Answered
@@ -78,15 +93,7 @@ impl FdtWriter {
     pub fn begin_node(self, blob: &mut [u8], name: &[u8]) -> NodeAnswered
         ensures { λ r. ⌜ BeginOutcome (self .0) (now (blob .entry)) (now (name .entry)) (begun r) (now (blob .exit)) ⌝ }
     {
-        let o = fdt_nodes::begin_node(self.0, blob, name);
-        let answer = o.answer;
-        let handle = o.handle;
-        let after = o.after;
-        NodeAnswered {
-            answer,
-            handle,
-            writer: FdtWriter(after),
-        }
+        wrapped_node(fdt_nodes::begin_node(self.0, blob, name))
     }
 
     // Ends the node that was begun last.

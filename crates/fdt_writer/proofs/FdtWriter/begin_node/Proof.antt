@@ -3,11 +3,11 @@ use Rattle.fdt_writer.proofs.FdtWriter.begin_node.Statement.{statement}
 use Rattle.fdt_writer.proofs.FdtWriter.begin_node.Tie as tie
 
 returns : tie.Need-returns
-returns c = c .before .before .before .before .begin-node .ensures
+returns c = rw (c .wrapped-node .ensures) (c .before .before .before .begin-node .ensures)
 
 pub begin-node-spec : {M : Type 1} → statement M
 begin-node-spec =
     tie.close
-    (tie.spec (λ c κs. tt)
-    (λ c. c .before .before .before .before .begin-node .kept .1 .0)
+    (tie.spec (λ c κs. tt) (λ c κs. tt)
+    (λ c. c .before .before .before .begin-node .kept .1 .0)
     returns)
