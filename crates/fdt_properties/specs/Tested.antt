@@ -12,13 +12,7 @@ use Rattle.fdt_values.specs.Value.{Value, valueBytes, misfitValue}
 use Rattle.fdt_record.specs.declared.Answer.{Answer}
 use Rattle.fdt_record.specs.declared.Record.{Record}
 use Rattle.fdt_record.specs.Answers.{accepts}
-use Rattle.fdt_record.specs.Rows.{first}
-use Rattle.fdt_properties.specs.Property.{placeOf, nameRows, propertyAnswer}
-
--- the tests of the name: their answer, and the name's place
-pub record NameTested (w : Record) (strings name : List ℕ) (len : ℕ) (answer : Answer) (place : Interned) : Type 0 where
-  pub answered : answer ≡ first (nameRows w strings name len)
-  pub placed : place ≡ placeOf w strings name
+use Rattle.fdt_properties.specs.Property.{placeOf, propertyAnswer}
 
 -- all tests: their answer and, where they are passed, the name's place and the value's length
 pub record PropertyTested (w : Record) (lent : ℕ) (strings name : List ℕ) (v : Value) (answer : Answer) (place : Interned) (len : ℕ) : Type 0 where

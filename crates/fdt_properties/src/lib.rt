@@ -1,6 +1,7 @@
 // Writing a property of any kind, and recording phandles.
 ghost use mathlib.Core.Path.{_≡_};
-ghost use Prim.Native.Nat.{_+_, _≤_, _<_, _^_};
+ghost use mathlib.Core.List.{List};
+ghost use Prim.Native.Nat.{ℕ, _+_, _≤_, _<_, _^_};
 ghost use lib.ListN.{length};
 ghost use Rattle.fdt_bytes.specs.Padding.{roundUp};
 ghost use Rattle.fdt_bytes.specs.Splice.{splice};
@@ -8,8 +9,8 @@ ghost use Rattle.fdt_format.specs.Tokens.{propertyBytes};
 ghost use Rattle.fdt_values.specs.Value.{valueBytes, valueOf};
 ghost use Rattle.fdt_record.specs.Fields.{withUsedBlob, withUsedStrings};
 ghost use Rattle.fdt_record.specs.Rows.{first};
-ghost use Rattle.fdt_properties.specs.Tested.{NameTested, PropertyTested, PlaceFits, PutFits};
-ghost use Rattle.fdt_properties.specs.Property.{isFull, offsetOf, added, stored, stateRows, PropertyOutcome};
+ghost use Rattle.fdt_properties.specs.Tested.{PropertyTested, PlaceFits, PutFits};
+ghost use Rattle.fdt_properties.specs.Property.{placeOf, isFull, offsetOf, added, stored, stateRows, nameRows, PropertyOutcome};
 use fdt_record::Answer;
 use fdt_record::Outcome;
 use fdt_record::Record;
@@ -72,48 +73,33 @@ fn state_tests(w: Record, lent: usize, strings: &[u8], misfit: bool, zero: bool)
     Answer::Done
 }
 
-// The answer of the tests of a name, and where the name stands.
-struct Named {
-    answer: Answer,
-    place: Interned,
-}
-
-// The tests of the name and of the rooms, in their order.
-fn name_tests(w: Record, strings: &[u8], name: &[u8], len: usize) -> Named
+// Where a name stands in the used strings, or would stand.
+fn place_of(w: Record, strings: &[u8], name: &[u8]) -> Interned
     requires { ⌜ w .«strings_used» ≤ length (now strings) ⌝ }
-    requires { ⌜ len < 2 ^ 63 + 2 ^ 62 ⌝ }
-    ensures { λ r. ⌜ NameTested w (now (strings .entry)) (now (name .entry)) len (r .answer) (r .place) ⌝ }
+    ensures { λ r. ⌜ r ≡ placeOf w (now (strings .entry)) (now (name .entry)) ⌝ }
 {
     let used = w.strings_used;
-    let place = fdt_strings::intern_string(&strings[..used], w.strings_room, name);
+    fdt_strings::intern_string(&strings[..used], w.strings_room, name)
+}
+
+// The tests of the name, whose place is known, and of the rooms, in their order.
+fn name_tests(w: Record, name: &[u8], place: Interned, len: usize) -> Answer
+    requires { ⌜ len < 2 ^ 63 + 2 ^ 62 ⌝ }
+    ensures { λ r. ⌜ ((strings : List ℕ) → place ≡ placeOf w strings (now (name .entry)) → r ≡ first (nameRows w strings (now (name .entry)) len)) ⌝ }
+{
     if fdt_names::has_zero(name) {
-        return Named {
-            answer: Answer::InvalidString,
-            place,
-        };
+        return Answer::InvalidString;
     }
     if !fdt_names::property_name_valid(name) {
-        return Named {
-            answer: Answer::InvalidPropertyName,
-            place,
-        };
+        return Answer::InvalidPropertyName;
     }
     if is_full(place) {
-        return Named {
-            answer: Answer::StringRoom,
-            place,
-        };
+        return Answer::StringRoom;
     }
     if fdt_record::no_room(w, 12 + (len + fdt_bytes::padding_of(len, 4))) {
-        return Named {
-            answer: Answer::BlobRoom,
-            place,
-        };
+        return Answer::BlobRoom;
     }
-    Named {
-        answer: Answer::Done,
-        place,
-    }
+    Answer::Done
 }
 
 // Stores a new name with its 0.
@@ -158,10 +144,12 @@ fn property_tests(
         };
     }
     let len = fdt_values::value_length(kind, bytes, cells, wide, lengths);
-    let named = name_tests(w, strings, name, len);
-    let answer = named.answer;
-    let place = named.place;
-    Tested { answer, place, len }
+    let place = place_of(w, strings, name);
+    Tested {
+        answer: name_tests(w, name, place, len),
+        place,
+        len,
+    }
 }
 
 // Writes a property into the rest of the blob, from the used length on.

@@ -51,18 +51,22 @@ returns c =
 value-length-requires : tie.Need-value-length-requires
 value-length-requires c κs = search needs
 
+place-of-requires : tie.Need-place-of-requires
+place-of-requires c κs = let f = fits (c .before) .names in omega (arith, f .used, f .within)
+
 name-tests-requires : tie.Need-name-tests-requires
-name-tests-requires c κs = let f = fits (c .before) .names in (omega (arith, f .used, f .within), c .value-length .ensures .small)
+name-tests-requires c κs = c .before .value-length .ensures .small
 
 returns-2 : tie.Need-returns-2
 returns-2 c =
-    let p = c .before .before in
+    let p = c .before .before .before in
     let s = p .before .before .before .before .before .before .before .before .before .before .before in
     let a = s .args in
-    let l = c .before .value-length .ensures .length-is (fits p .value) in
+    let l = c .before .before .value-length .ensures .length-is (fits p .value) in
+    let placed = c .before .place-of .ensures in
     record {
-      answered = answered-second (a .w) (a .lent) (a .strings .now) (value s) (p .before .before .before .before .misfit-value .ensures) (p .before .before .before .zero-value .ensures) (p .before .before .state-tests .ensures) (a .name .now) (passed p) l (c .name-tests .ensures .answered);
-      placed = λ h. c .name-tests .ensures .placed;
+      answered = answered-second (a .w) (a .lent) (a .strings .now) (value s) (p .before .before .before .before .misfit-value .ensures) (p .before .before .before .zero-value .ensures) (p .before .before .state-tests .ensures) (a .name .now) (passed p) l (c .name-tests .ensures (a .strings .now) placed);
+      placed = λ h. placed;
       sized = λ h. l;
     }
 
@@ -76,5 +80,6 @@ property-tests-spec =
     accepted-requires
     returns
     value-length-requires
+    place-of-requires
     name-tests-requires
     returns-2)
