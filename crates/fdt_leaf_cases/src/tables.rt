@@ -1,18 +1,17 @@
 // Tables of cases, one to a line.
 use crate::names;
 use crate::strings;
-use fdt_lines::words;
 
 // Each line of a table as a name: as one that is looked for in strings, or by the tests of names.
 pub fn each(table: &[u8], looked_for: bool, strings: &[u8]) {
     let mut start = 0;
     while start < table.len() {
-        let name = words::piece(table, start, b'\n');
+        let name = fdt_words::piece(table, start, b'\n');
         if looked_for {
             strings::find(strings, name);
         } else {
             names::tried(name);
         }
-        start = words::next(table, start, b'\n');
+        start = fdt_words::next(table, start, b'\n');
     }
 }

@@ -2,4 +2,3 @@
 pub mod numbers;
 pub mod said;
 pub mod spelling;
-pub mod words;

@@ -3,7 +3,6 @@ ghost use Prim.Native.Nat.{_≤_};
 ghost use lib.ListN.{length};
 ghost use Rattle.io.specs.Counts.{Counts};
 use crate::spelling;
-use crate::words;
 
 // Whether a word begins as a hexadecimal number does.
 fn hexadecimal(word: &[u8]) -> bool {
@@ -39,12 +38,12 @@ fn value(word: &[u8]) -> u64 {
 fn at(line: &[u8], from: usize) -> u64
     requires { ⌜ from ≤ length (now line) ⌝ }
 {
-    value(words::piece(line, from, b' '))
+    value(fdt_words::piece(line, from, b' '))
 }
 
 // Word k of a line as a number.
 pub fn number(line: &[u8], k: usize) -> u64 {
-    value(words::word(line, k))
+    value(fdt_words::word(line, k))
 }
 
 // A number without what is above 32 bits.
@@ -61,14 +60,14 @@ pub fn cell(line: &[u8], k: usize) -> u32 {
 pub fn numbers(line: &[u8], first: usize, out: &mut [u64]) -> usize
     ensures { λ r. ⌜ Counts r (now (out .exit)) ⌝ }
 {
-    let mut from = words::start(line, first);
+    let mut from = fdt_words::start(line, first);
     let mut k = 0;
     while k < out.len() {
         if from == line.len() {
             return k;
         }
         out[k] = at(line, from);
-        from = words::next(line, from, b' ');
+        from = fdt_words::next(line, from, b' ');
         k += 1;
     }
     k
@@ -78,14 +77,14 @@ pub fn numbers(line: &[u8], first: usize, out: &mut [u64]) -> usize
 pub fn cells(line: &[u8], first: usize, out: &mut [u32]) -> usize
     ensures { λ r. ⌜ Counts r (now (out .exit)) ⌝ }
 {
-    let mut from = words::start(line, first);
+    let mut from = fdt_words::start(line, first);
     let mut k = 0;
     while k < out.len() {
         if from == line.len() {
             return k;
         }
         out[k] = low(at(line, from));
-        from = words::next(line, from, b' ');
+        from = fdt_words::next(line, from, b' ');
         k += 1;
     }
     k
@@ -95,14 +94,14 @@ pub fn cells(line: &[u8], first: usize, out: &mut [u32]) -> usize
 pub fn lengths(line: &[u8], first: usize, out: &mut [usize]) -> usize
     ensures { λ r. ⌜ Counts r (now (out .exit)) ⌝ }
 {
-    let mut from = words::start(line, first);
+    let mut from = fdt_words::start(line, first);
     let mut k = 0;
     while k < out.len() {
         if from == line.len() {
             return k;
         }
         out[k] = at(line, from) as usize;
-        from = words::next(line, from, b' ');
+        from = fdt_words::next(line, from, b' ');
         k += 1;
     }
     k

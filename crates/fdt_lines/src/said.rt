@@ -1,5 +1,4 @@
 // Parts of a line, written to standard output.
-use crate::words;
 use libc::STDOUT_FILENO;
 
 // What is written at once.
@@ -109,7 +108,7 @@ fn put_number(out: &mut Text, at: usize, n: u64) -> usize {
 
 // Writes a text.
 fn written(out: &Text, at: usize) {
-    text(words::part(out, 0, at));
+    text(fdt_words::part(out, 0, at));
 }
 
 // Bytes in a style; the space before the first only where it is led.
@@ -161,7 +160,7 @@ pub fn named(names: &[u8], list: &[u64], led: bool) {
     let mut k = 0;
     while k < list.len() {
         gap(led || 0 < k);
-        text(words::word(names, k));
+        text(fdt_words::word(names, k));
         gap(true);
         number(list[k]);
         k += 1;

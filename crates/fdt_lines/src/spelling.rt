@@ -2,7 +2,6 @@
 ghost use Prim.Native.Nat.{_≤_, _<_};
 ghost use lib.ListN.{length};
 ghost use Rattle.io.specs.Counts.{Counts};
-use crate::words;
 
 // The number of a hexadecimal digit; 0 for any other byte.
 pub(crate) fn nibble(b: u8) -> u8 {
@@ -72,5 +71,5 @@ pub fn bytes(word: &[u8], out: &mut [u8]) -> usize
 pub fn word(line: &[u8], k: usize, out: &mut [u8]) -> usize
     ensures { λ r. ⌜ Counts r (now (out .exit)) ⌝ }
 {
-    bytes(words::word(line, k), out)
+    bytes(fdt_words::word(line, k), out)
 }

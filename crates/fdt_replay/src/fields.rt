@@ -2,7 +2,6 @@
 use crate::verbs;
 use fdt_lines::numbers;
 use fdt_lines::said;
-use fdt_lines::words;
 use fdt_record::Record;
 
 // The names, in the order of a report.
@@ -49,7 +48,7 @@ fn with(before: Record, place: usize, n: u64) -> Record {
 
 // A record as a line sets it.
 pub fn set(r: Record, line: &[u8]) -> Record {
-    let place = words::place(&NAMES, 11, words::word(line, 1));
+    let place = fdt_words::place(&NAMES, 11, fdt_words::word(line, 1));
     with(r, place, numbers::number(line, 2))
 }
 

@@ -4,7 +4,6 @@ use crate::calls;
 use crate::state;
 use crate::state::State;
 use crate::verbs;
-use fdt_lines::words;
 
 // How much of a buffer a line is lent: a call or a look so many bytes, or all; a change all.
 fn within(verb: usize, n: usize, s: &[u8]) -> usize
@@ -57,8 +56,8 @@ pub fn each(lines: &[u8], blob: &mut [u8], strings: &mut [u8], phandles: &mut [u
     let mut s = state::closed();
     let mut start = 0;
     while start < lines.len() {
-        let line = words::piece(lines, start, b'\n');
+        let line = fdt_words::piece(lines, start, b'\n');
         s = run(s, line, blob, strings, phandles);
-        start = words::next(lines, start, b'\n');
+        start = fdt_words::next(lines, start, b'\n');
     }
 }

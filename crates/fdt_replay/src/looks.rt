@@ -4,7 +4,6 @@ use crate::verbs;
 use fdt_lines::numbers;
 use fdt_lines::said;
 use fdt_lines::said::Style;
-use fdt_lines::words;
 use fdt_writer::FdtWriter;
 
 // How long the shown part is, and the part.
@@ -34,8 +33,8 @@ pub fn run(
     let to = numbers::number(line, 2) as usize;
     match verb {
         verbs::SHOW => shown(w.show(blob), aloud),
-        verbs::BLOB => said::bytes(words::part(blob, from, to), Style::Words, aloud),
-        verbs::STRINGS => said::bytes(words::part(strings, from, to), Style::Letters, aloud),
+        verbs::BLOB => said::bytes(fdt_words::part(blob, from, to), Style::Words, aloud),
+        verbs::STRINGS => said::bytes(fdt_words::part(strings, from, to), Style::Letters, aloud),
         verbs::PHANDLES => said::cells(phandles, from, to, aloud),
         _ => fields::look(w.0, verb, aloud),
     }

@@ -1,5 +1,4 @@
 // What a line asks for, by its first word: the word's place in the list below.
-use fdt_lines::words;
 
 // The writer's calls.
 pub const NEW: usize = 0;
@@ -72,5 +71,5 @@ pub fn asked(line: &[u8]) -> usize {
         property_u32 property_u64 property_array_u32 property_array_u64 \
         show record blob strings phandles fields \
         buffers lend put_blob put_strings put_phandles set aloud quiet";
-    words::place(list, REMARK, words::word(line, 0))
+    fdt_words::place(list, REMARK, fdt_words::word(line, 0))
 }

@@ -8,7 +8,6 @@ use crate::texts;
 use crate::texts::Lengths;
 use crate::texts::Text;
 use crate::verbs;
-use fdt_lines::words;
 
 // How many bytes of a text are the name, how many the name and the value, how many values there are, and what is wrong
 // where in the line.
@@ -170,8 +169,8 @@ fn reservations(lines: &[u8], wide: &mut Wide) -> usize {
     let mut at = 0;
     let mut n = 0;
     while at < lines.len() {
-        n = put_pair_of(words::piece(lines, at, b'\n'), wide, n);
-        at = words::next(lines, at, b'\n');
+        n = put_pair_of(fdt_words::piece(lines, at, b'\n'), wide, n);
+        at = fdt_words::next(lines, at, b'\n');
     }
     n
 }

@@ -7,7 +7,6 @@ use crate::room;
 use crate::texts;
 use crate::told;
 use crate::verbs;
-use fdt_lines::words;
 use fdt_writer::Answered;
 use fdt_writer::FdtWriter;
 use libc::STDOUT_FILENO;
@@ -115,9 +114,16 @@ pub fn run(lines: &[u8], blob: &mut [u8], strings: &mut [u8], phandles: &mut [u3
     };
     let mut at = 0;
     while at < lines.len() {
-        let line = words::piece(lines, at, b'\n');
-        at = words::next(lines, at, b'\n');
-        s = step(s, line, words::part(lines, 0, at), blob, strings, phandles);
+        let line = fdt_words::piece(lines, at, b'\n');
+        at = fdt_words::next(lines, at, b'\n');
+        s = step(
+            s,
+            line,
+            fdt_words::part(lines, 0, at),
+            blob,
+            strings,
+            phandles,
+        );
         if s.stopped {
             return;
         }

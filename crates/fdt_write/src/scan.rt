@@ -1,5 +1,4 @@
 // The words of a line: spaces and tabs stand between them, and `#` begins a comment where a word could begin.
-use fdt_lines::words;
 
 // Whether a byte stands between words.
 fn blank(b: u8) -> bool {
@@ -50,7 +49,7 @@ pub fn start(line: &[u8], from: usize) -> usize {
 
 // The word that begins at a place.
 pub fn word(line: &[u8], from: usize) -> &[u8] {
-    words::part(line, from, run_end(line, from, false))
+    fdt_words::part(line, from, run_end(line, from, false))
 }
 
 // Where the word after the one at a place begins.

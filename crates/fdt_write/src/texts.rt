@@ -4,7 +4,6 @@ use crate::faults::Got;
 use crate::numbers;
 use crate::scan;
 use crate::verbs;
-use fdt_lines::words;
 
 // The bytes of a line's name and strings, one after another. As many as this fit no blob.
 pub type Text = [u8; 65_536];
@@ -14,7 +13,7 @@ pub type Lengths = [usize; 65_536];
 
 // A part of a text.
 pub fn part(text: &Text, from: usize, to: usize) -> &[u8] {
-    words::part(text, from, to)
+    fdt_words::part(text, from, to)
 }
 
 // A byte of a word or a string, where the next begins, and what is wrong or ends there.

@@ -1,6 +1,5 @@
 // What is wrong, on a line of standard error.
 use crate::scan;
-use fdt_lines::words;
 use libc::STDERR_FILENO;
 
 // Bytes as they are.
@@ -33,7 +32,7 @@ fn word(s: &[u8]) {
         letters(s);
         return;
     }
-    letters(words::part(s, 0, 40));
+    letters(fdt_words::part(s, 0, 40));
     text(b"..");
 }
 
@@ -42,10 +41,10 @@ fn row(list: &[u8], k: usize) -> &[u8] {
     let mut at = 0;
     let mut left = k;
     while 0 < left {
-        at = words::next(list, at, b'\n');
+        at = fdt_words::next(list, at, b'\n');
         left -= 1;
     }
-    words::piece(list, at, b'\n')
+    fdt_words::piece(list, at, b'\n')
 }
 
 // What a refusal means, by its number.
@@ -96,7 +95,7 @@ fn at_line(count: u64) {
 // Tells a refusal: the line, the call, the number, and what it means.
 pub fn refused(count: u64, verb: usize, number: u32) {
     at_line(count);
-    text(words::word(
+    text(fdt_words::word(
         b"reserve boot begin end phandle property property property property property property - finish",
         verb,
     ));

@@ -1,6 +1,5 @@
 // What a line asks for, by its first word: the word's place in the list below.
 use crate::scan;
-use fdt_lines::words;
 
 pub const RESERVE: usize = 0;
 
@@ -44,7 +43,7 @@ pub fn asked(line: &[u8]) -> usize {
     if scan::ended(line, at) {
         return BLANK;
     }
-    words::place(
+    fdt_words::place(
         b"reserve boot begin end phandle null string strings bytes u32 u64",
         NO_CALL,
         scan::word(line, at),

@@ -1,9 +1,9 @@
--- `words::start` stays within the line, and ends: fewer words are left each time.
+-- `start` stays within the line, and ends: fewer words are left each time.
 use Prim.Native.Nat.{_≤_}
 use lib.ListN.{length}
 use borrow.Author.Needs.{needs}
-use Rattle.fdt_lines.proofs.words.start.Statement.{statement}
-use Rattle.fdt_lines.proofs.words.start.Tie as tie
+use Rattle.fdt_words.proofs.start.Statement.{statement}
+use Rattle.fdt_words.proofs.start.Tie as tie
 
 abbrev Inv-loop : tie.InvT-loop
 Inv-loop line k at₀ left₀ at left = at ≤ length line

@@ -37,27 +37,12 @@ pub fn word(line: &[u8], k: usize) -> &[u8] {
     piece(line, start(line, k), b' ')
 }
 
-// Whether two words are the same.
-fn same(a: &[u8], b: &[u8]) -> bool {
-    if a.len() != b.len() {
-        return false;
-    }
-    let mut i = 0;
-    while i < a.len() {
-        if a[i] != b[i] {
-            return false;
-        }
-        i += 1;
-    }
-    true
-}
-
 // Which word of a list of up to `most` is this one; `most` where none is.
 pub fn place(list: &[u8], most: usize, wanted: &[u8]) -> usize {
     let mut at = 0;
     let mut k = 0;
     while k < most {
-        if same(piece(list, at, b' '), wanted) {
+        if check::same(piece(list, at, b' '), wanted) {
             return k;
         }
         at = next(list, at, b' ');

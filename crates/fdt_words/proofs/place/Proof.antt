@@ -1,9 +1,9 @@
--- `words::place` is safe and ends: the place counts up to `most`, and the word lies within the list.
+-- `place` is safe and ends: the place counts up to `most`, and the word lies within the list.
 use Prim.Native.Nat.{_≤_, _-_}
 use lib.ListN.{length}
 use borrow.Author.Needs.{needs}
-use Rattle.fdt_lines.proofs.words.place.Statement.{statement}
-use Rattle.fdt_lines.proofs.words.place.Tie as tie
+use Rattle.fdt_words.proofs.place.Statement.{statement}
+use Rattle.fdt_words.proofs.place.Tie as tie
 
 abbrev Inv-loop : tie.InvT-loop
 Inv-loop list most wanted at₀ k₀ at k = (k ≤ most) × (at ≤ length list)
