@@ -1,15 +1,12 @@
-// The writer's calls.
-use crate::verbs;
+// The call that a line asks for.
+use crate::properties;
+use fdt_calls::given;
+use fdt_calls::verbs;
 use fdt_nodes::FdtWriterNode;
 use fdt_record::Answer;
 use fdt_writer::Answered;
 use fdt_writer::FdtWriter;
 use fdt_writer::NodeAnswered;
-
-// The first number of a list, or 0.
-fn first(list: &[u32]) -> u32 {
-    if 0 < list.len() { list[0] } else { 0 }
-}
 
 // An answer without its handle: the depth is the handle of the node that was begun last.
 fn alone(a: NodeAnswered) -> Answered {
@@ -18,56 +15,50 @@ fn alone(a: NodeAnswered) -> Answered {
     Answered { answer, writer }
 }
 
-// Writes a property.
-fn property(
-    w: FdtWriter,
-    verb: usize,
-    name: &[u8],
-    val: &[u8],
-    lengths: &[usize],
-    cells: &[u32],
-    wide: &[u64],
-    blob: &mut [u8],
-    strings: &mut [u8],
-) -> Answered {
-    match verb {
-        verbs::NULL => w.property_null(blob, strings, name),
-        verbs::STRING => w.property_string(blob, strings, name, val),
-        verbs::STRINGS => w.property_string_list(blob, strings, name, val, lengths),
-        verbs::BYTES => w.property(blob, strings, name, val),
-        verbs::U32 => w.property_array_u32(blob, strings, name, cells),
-        _ => w.property_array_u64(blob, strings, name, wide),
+// Begins a node.
+fn begin(w: FdtWriter, line: &[u8], blob: &mut [u8]) -> Answered {
+    let mut name = io::large_buffer();
+    let n = given::name(line, &mut name);
+    alone(w.begin_node(blob, given::front(&name, n)))
+}
+
+// Ends the node that was begun last.
+fn end(w: FdtWriter, blob: &mut [u8]) -> Answered {
+    let depth = w.0.node_depth;
+    w.end_node(blob, FdtWriterNode(depth))
+}
+
+// Opens the writer anew with the reservations of the lines.
+fn reserve(lines: &[u8], blob: &mut [u8], strings: &[u8], phandles: &[u32]) -> Answered {
+    let mut pairs = [0; 130];
+    let n = given::reservations(lines, &mut pairs);
+    FdtWriter::new_with_mem_reserv(blob, strings, phandles, given::front_pairs(&pairs, n))
+}
+
+// Accepts a line that asks for no call.
+fn nothing(w: FdtWriter) -> Answered {
+    Answered {
+        answer: Answer::Done,
+        writer: w,
     }
 }
 
-// Makes a call; a line that asks for none is accepted and changes nothing.
+// Makes the call that a line asks for, the last of these lines.
 pub fn run(
     w: FdtWriter,
-    verb: usize,
-    name: &[u8],
-    val: &[u8],
-    lengths: &[usize],
-    cells: &[u32],
-    wide: &[u64],
+    lines: &[u8],
+    line: &[u8],
     blob: &mut [u8],
     strings: &mut [u8],
     phandles: &mut [u32],
 ) -> Answered {
-    match verb {
-        verbs::RESERVE => FdtWriter::new_with_mem_reserv(blob, strings, phandles, wide),
-        verbs::BOOT => w.set_boot_cpuid_phys(first(cells)),
-        verbs::BEGIN => alone(w.begin_node(blob, name)),
-        verbs::END => {
-            let depth = w.0.node_depth;
-            w.end_node(blob, FdtWriterNode(depth))
-        }
-        verbs::PHANDLE => w.property_phandle(blob, strings, phandles, first(cells)),
-        verbs::NULL..=verbs::U64 => {
-            property(w, verb, name, val, lengths, cells, wide, blob, strings)
-        }
-        _ => Answered {
-            answer: Answer::Done,
-            writer: w,
-        },
+    match verbs::asked(line) {
+        verbs::RESERVE => reserve(lines, blob, strings, phandles),
+        verbs::BOOT => w.set_boot_cpuid_phys(given::number(line)),
+        verbs::BEGIN => begin(w, line, blob),
+        verbs::END => end(w, blob),
+        verbs::PHANDLE => w.property_phandle(blob, strings, phandles, given::number(line)),
+        verbs::BLANK => nothing(w),
+        _ => properties::run(w, line, blob, strings),
     }
 }

@@ -1,4 +1,4 @@
--- `list::run` is safe and ends: each turn comes nearer to the list's end, and the buffers keep their lengths.
+-- `list::run` is safe and ends: each turn comes nearer to the end of the lines, and the buffers keep their lengths.
 use Prim.Native.Nat.{_-_}
 use mathlib.Core.Path.{_≡_}
 use lib.ListN.{length}
@@ -7,10 +7,25 @@ use Rattle.fdt_write.proofs.list.run.Statement.{statement}
 use Rattle.fdt_write.proofs.list.run.Tie as tie
 
 abbrev Inv-loop : tie.InvT-loop
-Inv-loop lines blob₀ strings₀ phandles₀ s₀ at₀ blob strings phandles s at = (length blob ≡ length blob₀) × (length strings ≡ length strings₀) × (length phandles ≡ length phandles₀)
+Inv-loop lines blob₀ strings₀ phandles₀ w₀ at₀ blob strings phandles w at = (65536 ≡ length blob) × (8192 ≡ length strings) × (256 ≡ length phandles)
 
 abbrev μ-loop : tie.MeasureT-loop
-μ-loop lines blob₀ strings₀ phandles₀ s₀ at₀ blob strings phandles s at = length lines - at
+μ-loop lines blob₀ strings₀ phandles₀ w₀ at₀ blob strings phandles w at = length lines - at
+
+large-buffer-requires : tie.Need-large-buffer-requires Inv-loop μ-loop
+large-buffer-requires c κs = search needs
+
+strings-requires : tie.Need-strings-requires Inv-loop μ-loop
+strings-requires c κs = search needs
+
+slice-aggregate-new : tie.Need-slice-aggregate-new Inv-loop μ-loop
+slice-aggregate-new c = search needs
+
+slice-aggregate-new-2 : tie.Need-slice-aggregate-new-2 Inv-loop μ-loop
+slice-aggregate-new-2 c = search needs
+
+slice-aggregate-new-3 : tie.Need-slice-aggregate-new-3 Inv-loop μ-loop
+slice-aggregate-new-3 c = search needs
 
 new-requires : tie.Need-new-requires Inv-loop μ-loop
 new-requires c κs = search needs
@@ -27,20 +42,32 @@ next-requires c κs = search needs
 part-requires : tie.Need-part-requires Inv-loop μ-loop
 part-requires c κs = search needs
 
-step-requires : tie.Need-step-requires Inv-loop μ-loop
-step-requires c κs = search needs
-
-same-length : tie.Need-same-length Inv-loop μ-loop
-same-length c = search needs
-
-same-length-2 : tie.Need-same-length-2 Inv-loop μ-loop
-same-length-2 c = search needs
-
-same-length-3 : tie.Need-same-length-3 Inv-loop μ-loop
-same-length-3 c = search needs
+right-requires : tie.Need-right-requires Inv-loop μ-loop
+right-requires c κs = search needs
 
 returns : tie.Need-returns Inv-loop μ-loop
 returns c = search needs
+
+slice-aggregate-run : tie.Need-slice-aggregate-run Inv-loop μ-loop
+slice-aggregate-run c = search needs
+
+slice-aggregate-run-2 : tie.Need-slice-aggregate-run-2 Inv-loop μ-loop
+slice-aggregate-run-2 c = search needs
+
+slice-aggregate-run-3 : tie.Need-slice-aggregate-run-3 Inv-loop μ-loop
+slice-aggregate-run-3 c = search needs
+
+run-requires : tie.Need-run-requires Inv-loop μ-loop
+run-requires c κs = search needs
+
+number-requires : tie.Need-number-requires Inv-loop μ-loop
+number-requires c κs = search needs
+
+accepted-requires : tie.Need-accepted-requires Inv-loop μ-loop
+accepted-requires c κs = search needs
+
+returns-2 : tie.Need-returns-2 Inv-loop μ-loop
+returns-2 c = search needs
 
 loop-less : tie.Need-loop-less Inv-loop μ-loop
 loop-less c = search needs
@@ -48,35 +75,14 @@ loop-less c = search needs
 loop-again : tie.Need-loop-again Inv-loop μ-loop
 loop-again c = search needs
 
-finish-requires : tie.Need-finish-requires Inv-loop μ-loop
-finish-requires c κs = search needs
+slice-aggregate-end : tie.Need-slice-aggregate-end Inv-loop μ-loop
+slice-aggregate-end c = search needs
 
-called-requires : tie.Need-called-requires Inv-loop μ-loop
-called-requires c κs = search needs
+slice-aggregate-end-2 : tie.Need-slice-aggregate-end-2 Inv-loop μ-loop
+slice-aggregate-end-2 c = search needs
 
-written-requires : tie.Need-written-requires Inv-loop μ-loop
-written-requires c κs = search needs
-
-same-length-4 : tie.Need-same-length-4 Inv-loop μ-loop
-same-length-4 c = search needs
-
-same-length-5 : tie.Need-same-length-5 Inv-loop μ-loop
-same-length-5 c = search needs
-
-same-length-6 : tie.Need-same-length-6 Inv-loop μ-loop
-same-length-6 c = search needs
-
-returns-2 : tie.Need-returns-2 Inv-loop μ-loop
-returns-2 c = search needs
-
-same-length-7 : tie.Need-same-length-7 Inv-loop μ-loop
-same-length-7 c = search needs
-
-same-length-8 : tie.Need-same-length-8 Inv-loop μ-loop
-same-length-8 c = search needs
-
-same-length-9 : tie.Need-same-length-9 Inv-loop μ-loop
-same-length-9 c = search needs
+end-requires : tie.Need-end-requires Inv-loop μ-loop
+end-requires c κs = search needs
 
 returns-3 : tie.Need-returns-3 Inv-loop μ-loop
 returns-3 c = search needs
@@ -87,26 +93,28 @@ run-spec =
     (tie.spec
     Inv-loop
     μ-loop
+    large-buffer-requires
+    strings-requires
+    slice-aggregate-new
+    slice-aggregate-new-2
+    slice-aggregate-new-3
     new-requires
     loop-holds
     piece-requires
     next-requires
     part-requires
-    step-requires
-    same-length
-    same-length-2
-    same-length-3
+    right-requires
     returns
+    slice-aggregate-run
+    slice-aggregate-run-2
+    slice-aggregate-run-3
+    run-requires
+    number-requires
+    accepted-requires
+    returns-2
     loop-less
     loop-again
-    finish-requires
-    called-requires
-    written-requires
-    same-length-4
-    same-length-5
-    same-length-6
-    returns-2
-    same-length-7
-    same-length-8
-    same-length-9
+    slice-aggregate-end
+    slice-aggregate-end-2
+    end-requires
     returns-3)
