@@ -19,9 +19,19 @@ pub type Wide = [u64; 8_192];
 // The numbers of reservations: one pair more than may be.
 pub type Pairs = [u64; 130];
 
-// Writes the name of a line into the front of a text: how many bytes it has.
-pub fn name(line: &[u8], out: &mut Text) -> usize {
-    texts::copied(line, scan::name(line), out, 0)
+// Writes the name of a line that stands in double quotes into the front of a text: how many bytes it has.
+pub fn put_name(line: &[u8], out: &mut Text) -> usize {
+    texts::put(line, scan::name(line), out, 0)
+}
+
+// The name of a line: the front of that text, or a bare word of the line.
+pub fn name<'a>(line: &'a [u8], text: &'a Text, n: usize) -> &'a [u8] {
+    let at = scan::name(line);
+    if texts::opens(line, at) {
+        front(text, n)
+    } else {
+        scan::word(line, at)
+    }
 }
 
 // Where the values behind a name begin.
@@ -62,7 +72,7 @@ pub fn strings(line: &[u8], out: &mut Text) -> usize {
         if scan::ended(line, at) {
             return n;
         }
-        n = texts::copied(line, at, out, n);
+        n = texts::put(line, at, out, n);
         at = next_string(line, at);
         k += 1;
     }

@@ -10,9 +10,9 @@ pub fn peek(line: &[u8], at: usize) -> u8 {
     if at < line.len() { line[at] } else { b'\n' }
 }
 
-// The next place, as far as the line goes.
-pub fn after(line: &[u8], at: usize) -> usize {
-    if at < line.len() { at + 1 } else { at }
+// The next place.
+pub fn after(at: usize) -> usize {
+    std::num::wrapping_add_usize(at, 1)
 }
 
 // Where a run of blanks ends, or one of other bytes.

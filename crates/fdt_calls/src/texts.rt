@@ -5,77 +5,60 @@ use crate::faults::met;
 use crate::numbers;
 use crate::scan;
 
-// A byte of a word or a string, where the next begins, and what is wrong or ends there.
-struct Letter {
-    byte: u8,
-    next: usize,
-    fault: usize,
+// A byte as a number of any size.
+fn code(b: u8) -> usize {
+    b as usize
 }
 
-// A byte of which nothing is wrong.
-fn plain(byte: u8, next: usize) -> Letter {
-    Letter {
-        byte,
-        next,
-        fault: faults::NONE,
-    }
-}
-
-// No byte, but what stands in its place.
-fn no_letter(next: usize, fault: usize) -> Letter {
-    Letter {
-        byte: 0,
-        next,
-        fault,
-    }
-}
-
-// The byte of the two hexadecimal digits of an escape that begins at a place.
-fn pair(line: &[u8], from: usize, at: usize) -> Letter {
-    let second = scan::after(line, at);
+// The byte of two hexadecimal digits.
+fn pair(line: &[u8], at: usize) -> usize {
     let high = numbers::digit(scan::peek(line, at));
-    let low = numbers::digit(scan::peek(line, second));
+    let low = numbers::digit(scan::peek(line, scan::after(at)));
     if 15 < high || 15 < low {
-        return no_letter(from, faults::ESCAPE);
+        return faults::ESCAPE;
     }
-    plain(high << 4 | low, scan::after(line, second))
+    code(high << 4 | low)
 }
 
-// The byte of an escape that begins at a place, after its backslash.
-fn escape(line: &[u8], from: usize, at: usize) -> Letter {
+// The byte of an escape, after its backslash.
+fn escape(line: &[u8], at: usize) -> usize {
     let b = scan::peek(line, at);
-    let next = scan::after(line, at);
     match b {
-        b'"' | b'\\' => plain(b, next),
-        b'n' => plain(b'\n', next),
-        b't' => plain(b'\t', next),
-        b'0' => plain(0, next),
-        b'x' => pair(line, from, next),
-        _ => no_letter(from, faults::ESCAPE),
+        b'"' | b'\\' => code(b),
+        b'n' => 10,
+        b't' => 9,
+        b'0' => 0,
+        b'x' => pair(line, scan::after(at)),
+        _ => faults::ESCAPE,
     }
 }
 
-// The next byte of a string.
-fn quoted(line: &[u8], at: usize) -> Letter {
+// The byte at a place in a string; above all bytes, what is wrong or ends there.
+fn letter(line: &[u8], at: usize) -> usize {
     let b = scan::peek(line, at);
-    let next = scan::after(line, at);
     match b {
-        b'\n' => no_letter(at, faults::UNCLOSED),
-        b'"' => no_letter(next, faults::CLOSED),
-        b'\\' => escape(line, at, next),
-        _ => plain(b, next),
+        b'\n' => faults::UNCLOSED,
+        b'"' => faults::CLOSED,
+        b'\\' => escape(line, scan::after(at)),
+        _ => code(b),
     }
 }
 
-// The next byte of a string or a bare word.
-fn next_letter(line: &[u8], at: usize, is_quoted: bool) -> Letter {
-    if is_quoted {
-        return quoted(line, at);
+// How many bytes of the line spell it.
+fn width(line: &[u8], at: usize) -> usize {
+    if scan::peek(line, at) != b'\\' {
+        return 1;
     }
-    if scan::parted(line, at) {
-        return no_letter(at, faults::CLOSED);
+    if scan::peek(line, scan::after(at)) == b'x' {
+        4
+    } else {
+        2
     }
-    plain(scan::peek(line, at), scan::after(line, at))
+}
+
+// Where the byte after it stands.
+fn next(line: &[u8], at: usize) -> usize {
+    std::num::wrapping_add_usize(at, width(line, at))
 }
 
 // How far a string goes from a place in it on, with the bytes before it.
@@ -83,44 +66,44 @@ fn closed(line: &[u8], from: usize, before: usize) -> Got {
     let mut at = from;
     let mut n = before;
     while n < 65_536 {
-        let l = quoted(line, at);
-        if l.fault != faults::NONE {
-            return met(l.next, n, l.fault);
+        let c = letter(line, at);
+        if 255 < c {
+            return met(at, n, c);
         }
-        at = l.next;
+        at = next(line, at);
         n += 1;
     }
     met(at, n, faults::FULL)
 }
 
-// What is wrong with a string that begins at a place and goes so far: nothing may be joined to it.
+// What is met by a string that begins at a place and goes so far: nothing may be joined to it.
 fn complete(line: &[u8], at: usize, all: Got) -> Got {
     let fault = all.fault;
     match fault {
         faults::UNCLOSED => met(at, all.n, fault),
-        faults::CLOSED => joined(line, at, all),
+        faults::CLOSED => joined(line, at, scan::after(all.at), all.n),
         _ => all,
     }
 }
 
-// The same of a string that is closed.
-fn joined(line: &[u8], at: usize, all: Got) -> Got {
-    if scan::parted(line, all.at) {
-        met(all.at, all.n, faults::NONE)
+// The same of a string that ends at a place.
+fn joined(line: &[u8], at: usize, end: usize, n: usize) -> Got {
+    if scan::parted(line, end) {
+        met(end, n, faults::NONE)
     } else {
-        met(at, all.n, faults::JOINED)
+        met(at, n, faults::JOINED)
     }
 }
 
 // Whether a string begins at a place.
-fn opens(line: &[u8], at: usize) -> bool {
+pub fn opens(line: &[u8], at: usize) -> bool {
     scan::peek(line, at) == b'"'
 }
 
 // How far the string at a place goes, with the bytes before it.
 pub fn string(line: &[u8], at: usize, before: usize) -> Got {
     if opens(line, at) {
-        complete(line, at, closed(line, scan::after(line, at), before))
+        complete(line, at, closed(line, scan::after(at), before))
     } else {
         met(at, before, faults::STRING)
     }
@@ -137,27 +120,18 @@ pub fn name(line: &[u8], at: usize) -> Got {
     met(scan::end(line, at), 0, faults::NONE)
 }
 
-// Writes the bytes of a string or a bare word into a text behind so many: how many there are then.
-fn put(line: &[u8], from: usize, is_quoted: bool, out: &mut [u8; 65_536], before: usize) -> usize {
-    let mut at = from;
+// Writes the bytes of the string at a place into a text behind so many: how many there are then.
+pub fn put(line: &[u8], from: usize, out: &mut [u8; 65_536], before: usize) -> usize {
+    let mut at = scan::after(from);
     let mut n = before;
     while n < 65_536 {
-        let l = next_letter(line, at, is_quoted);
-        if l.fault != faults::NONE {
+        let c = letter(line, at);
+        if 255 < c {
             return n;
         }
-        out[n] = l.byte;
-        at = l.next;
+        out[n] = c as u8;
+        at = next(line, at);
         n += 1;
     }
     n
-}
-
-// The same for the string or the bare word that begins at a place.
-pub fn copied(line: &[u8], at: usize, out: &mut [u8; 65_536], before: usize) -> usize {
-    if opens(line, at) {
-        put(line, scan::after(line, at), true, out, before)
-    } else {
-        put(line, at, false, out, before)
-    }
 }

@@ -94,7 +94,7 @@ const SENTENCES: [u8; 897] = *b"\n\
 
 // What a refusal means, or what else is wrong.
 fn sentence(k: usize) {
-    text(row(&SENTENCES, k));
+    text(row(&SENTENCES, k % 256));
 }
 
 // The call that a line asks for; the finish at the list's end.

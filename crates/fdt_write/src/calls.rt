@@ -1,5 +1,8 @@
 // The call that a line asks for.
 use crate::properties;
+use crate::room::Blob;
+use crate::room::Names;
+use crate::room::Phandles;
 use fdt_calls::given;
 use fdt_calls::verbs;
 use fdt_nodes::FdtWriterNode;
@@ -16,20 +19,20 @@ fn alone(a: NodeAnswered) -> Answered {
 }
 
 // Begins a node.
-fn begin(w: FdtWriter, line: &[u8], blob: &mut [u8]) -> Answered {
+fn begin(w: FdtWriter, line: &[u8], blob: &mut Blob) -> Answered {
     let mut name = io::large_buffer();
-    let n = given::name(line, &mut name);
-    alone(w.begin_node(blob, given::front(&name, n)))
+    let n = given::put_name(line, &mut name);
+    alone(w.begin_node(blob, given::name(line, &name, n)))
 }
 
 // Ends the node that was begun last.
-fn end(w: FdtWriter, blob: &mut [u8]) -> Answered {
+fn end(w: FdtWriter, blob: &mut Blob) -> Answered {
     let depth = w.0.node_depth;
     w.end_node(blob, FdtWriterNode(depth))
 }
 
 // Opens the writer anew with the reservations of the lines.
-fn reserve(lines: &[u8], blob: &mut [u8], strings: &[u8], phandles: &[u32]) -> Answered {
+fn reserve(lines: &[u8], blob: &mut Blob, strings: &Names, phandles: &Phandles) -> Answered {
     let mut pairs = [0; 130];
     let n = given::reservations(lines, &mut pairs);
     FdtWriter::new_with_mem_reserv(blob, strings, phandles, given::front_pairs(&pairs, n))
@@ -48,9 +51,9 @@ pub fn run(
     w: FdtWriter,
     lines: &[u8],
     line: &[u8],
-    blob: &mut [u8],
-    strings: &mut [u8],
-    phandles: &mut [u32],
+    blob: &mut Blob,
+    strings: &mut Names,
+    phandles: &mut Phandles,
 ) -> Answered {
     match verbs::asked(line) {
         verbs::RESERVE => reserve(lines, blob, strings, phandles),

@@ -1,17 +1,19 @@
 // The lines of a list in turn, and the finish at its end.
 use crate::calls;
+use crate::room::Blob;
+use crate::room::Names;
 use fdt_calls::told;
 use fdt_writer::FdtWriter;
 
 // Writes the finished blob.
-fn written(w: FdtWriter, blob: &[u8]) {
+fn written(w: FdtWriter, blob: &Blob) {
     if !io::write_all(libc::STDOUT_FILENO, w.show(blob)) {
         told::text(b"the blob cannot be written\n");
     }
 }
 
 // Finishes the blob and writes it.
-fn end(w: FdtWriter, lines: &[u8], blob: &mut [u8], strings: &[u8]) {
+fn end(w: FdtWriter, lines: &[u8], blob: &mut Blob, strings: &Names) {
     let a = w.finish(blob, strings);
     let answer = a.answer;
     if told::accepted(lines, b"", fdt_record::number(answer)) {

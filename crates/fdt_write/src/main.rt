@@ -3,6 +3,7 @@
 mod calls;
 mod list;
 mod properties;
+mod room;
 
 // Reads the list, and runs it over buffers as long as their ceilings.
 fn main() {

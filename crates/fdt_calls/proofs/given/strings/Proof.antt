@@ -22,8 +22,8 @@ ended-requires c κs = search needs
 returns : tie.Need-returns Inv-loop μ-loop
 returns c = search needs
 
-copied-requires : tie.Need-copied-requires Inv-loop μ-loop
-copied-requires c κs = search needs
+put-requires : tie.Need-put-requires Inv-loop μ-loop
+put-requires c κs = search needs
 
 next-string-requires : tie.Need-next-string-requires Inv-loop μ-loop
 next-string-requires c κs = search needs
@@ -50,7 +50,7 @@ strings-spec =
     loop-holds
     ended-requires
     returns
-    copied-requires
+    put-requires
     next-string-requires
     add-k
     loop-less

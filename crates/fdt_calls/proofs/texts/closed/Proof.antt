@@ -13,14 +13,17 @@ abbrev μ-loop : tie.MeasureT-loop
 loop-holds : tie.Need-loop-holds Inv-loop μ-loop
 loop-holds c = search needs
 
-quoted-requires : tie.Need-quoted-requires Inv-loop μ-loop
-quoted-requires c κs = search needs
+letter-requires : tie.Need-letter-requires Inv-loop μ-loop
+letter-requires c κs = search needs
 
 met-requires : tie.Need-met-requires Inv-loop μ-loop
 met-requires c κs = search needs
 
 returns : tie.Need-returns Inv-loop μ-loop
 returns c = search needs
+
+next-requires : tie.Need-next-requires Inv-loop μ-loop
+next-requires c κs = search needs
 
 add-n : tie.Need-add-n Inv-loop μ-loop
 add-n c = search needs
@@ -44,9 +47,10 @@ closed-spec =
     Inv-loop
     μ-loop
     loop-holds
-    quoted-requires
+    letter-requires
     met-requires
     returns
+    next-requires
     add-n
     loop-less
     loop-again

@@ -5,22 +5,31 @@ use Rattle.fdt_calls.proofs.texts.put.Statement.{statement}
 use Rattle.fdt_calls.proofs.texts.put.Tie as tie
 
 abbrev Inv-loop : tie.InvT-loop
-Inv-loop line from is-quoted out₀ before at₀ n₀ out at n = before ≤ n
+Inv-loop line from out₀ before at₀ n₀ out at n = before ≤ n
 
 abbrev μ-loop : tie.MeasureT-loop
-μ-loop line from is-quoted out₀ before at₀ n₀ out at n = 65536 - n
+μ-loop line from out₀ before at₀ n₀ out at n = 65536 - n
+
+after-requires : tie.Need-after-requires Inv-loop μ-loop
+after-requires c κs = search needs
 
 loop-holds : tie.Need-loop-holds Inv-loop μ-loop
 loop-holds c = search needs
 
-next-letter-requires : tie.Need-next-letter-requires Inv-loop μ-loop
-next-letter-requires c κs = search needs
+letter-requires : tie.Need-letter-requires Inv-loop μ-loop
+letter-requires c κs = search needs
 
 returns : tie.Need-returns Inv-loop μ-loop
 returns c = search needs
 
+cast-out : tie.Need-cast-out Inv-loop μ-loop
+cast-out c = search needs
+
 element-write-out : tie.Need-element-write-out Inv-loop μ-loop
 element-write-out c = search needs
+
+next-requires : tie.Need-next-requires Inv-loop μ-loop
+next-requires c κs = search needs
 
 add-n : tie.Need-add-n Inv-loop μ-loop
 add-n c = search needs
@@ -40,10 +49,13 @@ put-spec =
     (tie.spec
     Inv-loop
     μ-loop
+    after-requires
     loop-holds
-    next-letter-requires
+    letter-requires
     returns
+    cast-out
     element-write-out
+    next-requires
     add-n
     loop-less
     loop-again

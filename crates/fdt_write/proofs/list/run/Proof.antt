@@ -1,13 +1,12 @@
--- `list::run` is safe and ends: each turn comes nearer to the end of the lines, and the buffers keep their lengths.
-use Prim.Native.Nat.{_-_}
-use mathlib.Core.Path.{_≡_}
+-- `list::run` is safe and ends: each turn comes nearer to the end of the lines.
+use Prim.Native.Nat.{_≤_, _-_}
 use lib.ListN.{length}
 use borrow.Author.Needs.{needs}
 use Rattle.fdt_write.proofs.list.run.Statement.{statement}
 use Rattle.fdt_write.proofs.list.run.Tie as tie
 
 abbrev Inv-loop : tie.InvT-loop
-Inv-loop lines blob₀ strings₀ phandles₀ w₀ at₀ blob strings phandles w at = (65536 ≡ length blob) × (8192 ≡ length strings) × (256 ≡ length phandles)
+Inv-loop lines blob₀ strings₀ phandles₀ w₀ at₀ blob strings phandles w at = 0 ≤ at
 
 abbrev μ-loop : tie.MeasureT-loop
 μ-loop lines blob₀ strings₀ phandles₀ w₀ at₀ blob strings phandles w at = length lines - at
@@ -48,15 +47,6 @@ right-requires c κs = search needs
 returns : tie.Need-returns Inv-loop μ-loop
 returns c = search needs
 
-slice-aggregate-run : tie.Need-slice-aggregate-run Inv-loop μ-loop
-slice-aggregate-run c = search needs
-
-slice-aggregate-run-2 : tie.Need-slice-aggregate-run-2 Inv-loop μ-loop
-slice-aggregate-run-2 c = search needs
-
-slice-aggregate-run-3 : tie.Need-slice-aggregate-run-3 Inv-loop μ-loop
-slice-aggregate-run-3 c = search needs
-
 run-requires : tie.Need-run-requires Inv-loop μ-loop
 run-requires c κs = search needs
 
@@ -74,12 +64,6 @@ loop-less c = search needs
 
 loop-again : tie.Need-loop-again Inv-loop μ-loop
 loop-again c = search needs
-
-slice-aggregate-end : tie.Need-slice-aggregate-end Inv-loop μ-loop
-slice-aggregate-end c = search needs
-
-slice-aggregate-end-2 : tie.Need-slice-aggregate-end-2 Inv-loop μ-loop
-slice-aggregate-end-2 c = search needs
 
 end-requires : tie.Need-end-requires Inv-loop μ-loop
 end-requires c κs = search needs
@@ -105,16 +89,11 @@ run-spec =
     part-requires
     right-requires
     returns
-    slice-aggregate-run
-    slice-aggregate-run-2
-    slice-aggregate-run-3
     run-requires
     number-requires
     accepted-requires
     returns-2
     loop-less
     loop-again
-    slice-aggregate-end
-    slice-aggregate-end-2
     end-requires
     returns-3)
