@@ -11,41 +11,11 @@ Inv-loop word from hex found₀ i₀ found i = from ≤ i
 abbrev μ-loop : tie.MeasureT-loop
 μ-loop word from hex found₀ i₀ found i = length word - i
 
-right-requires : tie.Need-right-requires Inv-loop μ-loop
-right-requires c κs = search needs
-
-loop-holds : tie.Need-loop-holds Inv-loop μ-loop
-loop-holds c = search needs
-
-shared-slice-read-more : tie.Need-shared-slice-read-more Inv-loop μ-loop
-shared-slice-read-more c = search needs
-
-more-requires : tie.Need-more-requires Inv-loop μ-loop
-more-requires c κs = search needs
-
-add-i : tie.Need-add-i Inv-loop μ-loop
-add-i c = search needs
-
-loop-less : tie.Need-loop-less Inv-loop μ-loop
-loop-less c = search needs
-
-loop-again : tie.Need-loop-again Inv-loop μ-loop
-loop-again c = search needs
-
-returns : tie.Need-returns Inv-loop μ-loop
-returns c = search needs
-
 pub value-spec : {M : Type 1} → statement M
 value-spec =
     tie.close
     (tie.spec
     Inv-loop
     μ-loop
-    right-requires
-    loop-holds
-    shared-slice-read-more
-    more-requires
-    add-i
-    loop-less
-    loop-again
-    returns)
+    (λ c κs. search needs) (λ c. search needs) (λ c. search needs) (λ c κs. search needs) (λ c. search needs)
+    (λ c. search needs) (λ c. search needs) (λ c. search needs))
