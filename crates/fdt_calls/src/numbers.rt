@@ -1,16 +1,28 @@
 // The numbers of a line: decimal, or hexadecimal after 0x; the bytes of a line, in two hexadecimal digits each.
-use crate::faults;
 use crate::scan;
 use crate::verbs;
 
-// A number, and what is wrong with it.
+// A number, and whether it is one.
 pub struct Found {
     pub value: u64,
-    pub fault: usize,
+    pub right: bool,
+}
+
+// A number that is none.
+fn none() -> Found {
+    Found {
+        value: 0,
+        right: false,
+    }
+}
+
+// A number.
+fn number(value: u64) -> Found {
+    Found { value, right: true }
 }
 
 // A hexadecimal digit's number; 16 for any other byte.
-pub fn digit(b: u8) -> u8 {
+fn digit(b: u8) -> u8 {
     match b {
         b'0'..=b'9' => b - b'0',
         b'a'..=b'f' => b - b'a' + 10,
@@ -19,52 +31,38 @@ pub fn digit(b: u8) -> u8 {
     }
 }
 
-// A number of which nothing is known but what is wrong.
-fn wrong(fault: usize) -> Found {
-    Found { value: 0, fault }
-}
-
-// A number of which nothing is wrong.
-fn right(value: u64) -> Found {
-    Found {
-        value,
-        fault: faults::NONE,
-    }
-}
-
 // A number with a hexadecimal digit more.
 fn longer_hex(n: u64, d: u64) -> Found {
     if 15 < d {
-        return wrong(faults::NUMBER);
+        return none();
     }
     if 0x0fff_ffff_ffff_ffff < n {
-        return wrong(faults::LARGE);
+        return none();
     }
-    right(n * 16 + d)
+    number(n * 16 + d)
 }
 
 // A number with a decimal digit more.
 fn longer(n: u64, d: u64) -> Found {
     if 9 < d {
-        return wrong(faults::NUMBER);
+        return none();
     }
     if 1_844_674_407_370_955_161 < n {
-        return wrong(faults::LARGE);
+        return none();
     }
     let tens = n * 10;
     if 18_446_744_073_709_551_615 - d < tens {
-        return wrong(faults::LARGE);
+        return none();
     }
-    right(tens + d)
+    number(tens + d)
 }
 
 // What is found with a digit more.
 fn more(found: Found, b: u8, hex: bool) -> Found {
-    if found.fault != faults::NONE {
-        return found;
-    }
     let d = digit(b) as u64;
-    if hex {
+    if !found.right {
+        none()
+    } else if hex {
         longer_hex(found.value, d)
     } else {
         longer(found.value, d)
@@ -72,8 +70,8 @@ fn more(found: Found, b: u8, hex: bool) -> Found {
 }
 
 // The number that a word spells from a place on.
-fn value(word: &[u8], from: usize, hex: bool) -> Found {
-    let mut found = right(0);
+fn spelled(word: &[u8], from: usize, hex: bool) -> Found {
+    let mut found = number(0);
     let mut i = from;
     while i < word.len() {
         found = more(found, word[i], hex);
@@ -83,30 +81,27 @@ fn value(word: &[u8], from: usize, hex: bool) -> Found {
 }
 
 // The byte that two hexadecimal digits spell.
-fn byte(word: &[u8]) -> Found {
-    let n = value(word, 0, true);
-    if word.len() == 2 && n.fault == faults::NONE {
-        return n;
+pub fn byte(word: &[u8]) -> Found {
+    if word.len() == 2 {
+        spelled(word, 0, true)
+    } else {
+        none()
     }
-    wrong(faults::BYTE)
 }
 
 // The number that a word spells.
-fn number(word: &[u8]) -> Found {
+fn wide(word: &[u8]) -> Found {
     if 2 < word.len() && scan::peek(word, 0) == b'0' && scan::peek(word, 1) == b'x' {
-        value(word, 2, true)
+        spelled(word, 2, true)
     } else {
-        value(word, 0, false)
+        spelled(word, 0, false)
     }
 }
 
 // The number that a word spells in at most 32 bits.
 fn small(word: &[u8]) -> Found {
-    let n = number(word);
-    if 0xffff_ffff < n.value {
-        return wrong(faults::LARGE);
-    }
-    n
+    let n = wide(word);
+    if n.value <= 0xffff_ffff { n } else { none() }
 }
 
 // The number at a place, for a call: a byte, one of 4 bytes, or one of 8.
@@ -114,9 +109,15 @@ pub fn read(line: &[u8], at: usize, verb: usize) -> Found {
     let word = scan::word(line, at);
     match verb {
         verbs::BYTES => byte(word),
-        verbs::U64 | verbs::RESERVE => number(word),
+        verbs::U64 | verbs::RESERVE => wide(word),
         _ => small(word),
     }
+}
+
+// The same without what is wrong.
+pub fn value(line: &[u8], at: usize, verb: usize) -> u64 {
+    let n = read(line, at, verb);
+    n.value
 }
 
 // A number without what is above 32 bits.

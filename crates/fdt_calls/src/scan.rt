@@ -2,7 +2,10 @@
 
 // Whether a byte stands between words.
 fn blank(b: u8) -> bool {
-    b == b' ' || b == b'\t' || b == b'\r'
+    match b {
+        b' ' | b'\t' | b'\r' => true,
+        _ => false,
+    }
 }
 
 // The byte at a place; the end of a line, which no line has in it, where there is none.
@@ -62,12 +65,7 @@ pub fn first_end(line: &[u8]) -> usize {
     end(line, start(line, 0))
 }
 
-// Where the second word of a line begins: a number.
-pub fn second(line: &[u8]) -> usize {
-    start(line, first_end(line))
-}
-
-// The same where that word is a name, which may begin with `#`.
+// Where the second word of a line begins as a name, which may begin with `#`.
 pub fn name(line: &[u8]) -> usize {
     run_end(line, first_end(line), true)
 }

@@ -5,11 +5,12 @@ pub const RESERVE: usize = 0;
 
 pub const BOOT: usize = 1;
 
-pub const BEGIN: usize = 2;
+pub const PHANDLE: usize = 2;
 
 pub const END: usize = 3;
 
-pub const PHANDLE: usize = 4;
+// The first call that takes a name, as all after it do.
+pub const BEGIN: usize = 4;
 
 pub const NULL: usize = 5;
 
@@ -29,15 +30,10 @@ pub const NO_CALL: usize = 11;
 // A line without a word, and the list's end.
 pub const BLANK: usize = 12;
 
-// Where the first word of a line begins.
-pub fn start(line: &[u8]) -> usize {
-    scan::start(line, 0)
-}
-
 // What a word asks for.
 fn verb(word: &[u8]) -> usize {
     fdt_words::place(
-        b"reserve boot begin end phandle null string strings bytes u32 u64",
+        b"reserve boot phandle end begin null string strings bytes u32 u64",
         NO_CALL,
         word,
     )
@@ -45,7 +41,7 @@ fn verb(word: &[u8]) -> usize {
 
 // What a line asks for.
 pub fn asked(line: &[u8]) -> usize {
-    let at = start(line);
+    let at = scan::start(line, 0);
     if scan::ended(line, at) {
         BLANK
     } else {

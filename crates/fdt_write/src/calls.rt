@@ -1,14 +1,12 @@
 // The call that a line asks for.
+use crate::desk;
+use crate::desk::Desk;
+use crate::desk::after;
 use crate::properties;
-use crate::room::Blob;
-use crate::room::Names;
-use crate::room::Phandles;
 use fdt_calls::given;
 use fdt_calls::verbs;
 use fdt_nodes::FdtWriterNode;
-use fdt_record::Answer;
 use fdt_writer::Answered;
-use fdt_writer::FdtWriter;
 use fdt_writer::NodeAnswered;
 
 // An answer without its handle: the depth is the handle of the node that was begun last.
@@ -19,49 +17,62 @@ fn alone(a: NodeAnswered) -> Answered {
 }
 
 // Begins a node.
-fn begin(w: FdtWriter, line: &[u8], blob: &mut Blob) -> Answered {
-    let mut name = io::large_buffer();
-    let n = given::put_name(line, &mut name);
-    alone(w.begin_node(blob, given::name(line, &name, n)))
+fn begin(d: Desk, line: &[u8]) -> Desk {
+    let mut blob = d.blob;
+    let w = d.writer;
+    let a = w.begin_node(&mut blob, given::name(line));
+    let strings = d.strings;
+    let phandles = d.phandles;
+    after(alone(a), blob, strings, phandles)
 }
 
 // Ends the node that was begun last.
-fn end(w: FdtWriter, blob: &mut Blob) -> Answered {
+fn end(d: Desk) -> Desk {
+    let mut blob = d.blob;
+    let w = d.writer;
     let depth = w.0.node_depth;
-    w.end_node(blob, FdtWriterNode(depth))
+    let a = w.end_node(&mut blob, FdtWriterNode(depth));
+    let strings = d.strings;
+    let phandles = d.phandles;
+    after(a, blob, strings, phandles)
+}
+
+// Sets the boot processor's number.
+fn boot(d: Desk, n: u32) -> Desk {
+    let w = d.writer;
+    let a = w.set_boot_cpuid_phys(n);
+    let blob = d.blob;
+    let strings = d.strings;
+    let phandles = d.phandles;
+    after(a, blob, strings, phandles)
+}
+
+// Gives the node a phandle.
+fn phandle(d: Desk, n: u32) -> Desk {
+    let mut blob = d.blob;
+    let mut strings = d.strings;
+    let mut phandles = d.phandles;
+    let w = d.writer;
+    let a = w.property_phandle(&mut blob, &mut strings, &mut phandles, n);
+    after(a, blob, strings, phandles)
 }
 
 // Opens the writer anew with the reservations of the lines.
-fn reserve(lines: &[u8], blob: &mut Blob, strings: &Names, phandles: &Phandles) -> Answered {
+fn reserve(lines: &[u8]) -> Desk {
     let mut pairs = [0; 130];
     let n = given::reservations(lines, &mut pairs);
-    FdtWriter::new_with_mem_reserv(blob, strings, phandles, given::front_pairs(&pairs, n))
+    desk::opened(given::front_pairs(&pairs, n))
 }
 
-// Accepts a line that asks for no call.
-fn nothing(w: FdtWriter) -> Answered {
-    Answered {
-        answer: Answer::Done,
-        writer: w,
-    }
-}
-
-// Makes the call that a line asks for, the last of these lines.
-pub fn run(
-    w: FdtWriter,
-    lines: &[u8],
-    line: &[u8],
-    blob: &mut Blob,
-    strings: &mut Names,
-    phandles: &mut Phandles,
-) -> Answered {
+// Makes the call that a line asks for, the last of these lines; a blank one asks for none.
+pub fn run(d: Desk, lines: &[u8], line: &[u8]) -> Desk {
     match verbs::asked(line) {
-        verbs::RESERVE => reserve(lines, blob, strings, phandles),
-        verbs::BOOT => w.set_boot_cpuid_phys(given::number(line)),
-        verbs::BEGIN => begin(w, line, blob),
-        verbs::END => end(w, blob),
-        verbs::PHANDLE => w.property_phandle(blob, strings, phandles, given::number(line)),
-        verbs::BLANK => nothing(w),
-        _ => properties::run(w, line, blob, strings),
+        verbs::RESERVE => reserve(lines),
+        verbs::BOOT => boot(d, given::number(line)),
+        verbs::PHANDLE => phandle(d, given::number(line)),
+        verbs::END => end(d),
+        verbs::BEGIN => begin(d, line),
+        verbs::BLANK => d,
+        _ => properties::run(d, line),
     }
 }

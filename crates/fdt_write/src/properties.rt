@@ -1,61 +1,86 @@
 // A property of each kind.
-use crate::room::Blob;
-use crate::room::Names;
+use crate::desk::Desk;
+use crate::desk::after;
 use fdt_calls::given;
 use fdt_calls::room;
 use fdt_calls::verbs;
-use fdt_writer::Answered;
-use fdt_writer::FdtWriter;
 
 // Of bytes, or empty.
-fn bytes(w: FdtWriter, line: &[u8], name: &[u8], blob: &mut Blob, strings: &mut Names) -> Answered {
+fn bytes(d: Desk, line: &[u8]) -> Desk {
     let mut val = io::large_buffer();
     let n = given::bytes(line, &mut val);
-    w.property(blob, strings, name, given::front(&val, n))
+    let mut blob = d.blob;
+    let mut strings = d.strings;
+    let w = d.writer;
+    let a = w.property(
+        &mut blob,
+        &mut strings,
+        given::name(line),
+        given::front(&val, n),
+    );
+    let phandles = d.phandles;
+    after(a, blob, strings, phandles)
 }
 
 // Of strings.
-fn texts(w: FdtWriter, line: &[u8], name: &[u8], blob: &mut Blob, strings: &mut Names) -> Answered {
-    let mut val = io::large_buffer();
-    let n = given::strings(line, &mut val);
+fn texts(d: Desk, line: &[u8]) -> Desk {
+    let mut text = io::large_buffer();
     let mut lengths = room::lengths();
-    let k = given::lengths(line, &mut lengths);
-    w.property_string_list(
-        blob,
-        strings,
-        name,
-        given::front(&val, n),
-        given::front_lengths(&lengths, k),
-    )
+    let sizes = given::strings(line, &mut text, &mut lengths);
+    let mut blob = d.blob;
+    let mut strings = d.strings;
+    let w = d.writer;
+    let a = w.property_string_list(
+        &mut blob,
+        &mut strings,
+        given::name(line),
+        given::front(&text, sizes.bytes),
+        given::front_lengths(&lengths, sizes.count),
+    );
+    let phandles = d.phandles;
+    after(a, blob, strings, phandles)
 }
 
 // Of numbers of 4 bytes.
-fn cells(w: FdtWriter, line: &[u8], name: &[u8], blob: &mut Blob, strings: &mut Names) -> Answered {
+fn cells(d: Desk, line: &[u8]) -> Desk {
     let mut numbers = room::cells();
     let n = given::cells(line, &mut numbers);
-    w.property_array_u32(blob, strings, name, given::front_cells(&numbers, n))
+    let mut blob = d.blob;
+    let mut strings = d.strings;
+    let w = d.writer;
+    let a = w.property_array_u32(
+        &mut blob,
+        &mut strings,
+        given::name(line),
+        given::front_cells(&numbers, n),
+    );
+    let phandles = d.phandles;
+    after(a, blob, strings, phandles)
 }
 
 // Of numbers of 8 bytes.
-fn wide(w: FdtWriter, line: &[u8], name: &[u8], blob: &mut Blob, strings: &mut Names) -> Answered {
+fn wide(d: Desk, line: &[u8]) -> Desk {
     let mut numbers = room::wide();
     let n = given::wide(line, &mut numbers);
-    w.property_array_u64(blob, strings, name, given::front_wide(&numbers, n))
-}
-
-// Of the kind that a line asks for.
-fn kinds(w: FdtWriter, line: &[u8], name: &[u8], blob: &mut Blob, strings: &mut Names) -> Answered {
-    match verbs::asked(line) {
-        verbs::STRING | verbs::STRINGS => texts(w, line, name, blob, strings),
-        verbs::U32 => cells(w, line, name, blob, strings),
-        verbs::U64 => wide(w, line, name, blob, strings),
-        _ => bytes(w, line, name, blob, strings),
-    }
+    let mut blob = d.blob;
+    let mut strings = d.strings;
+    let w = d.writer;
+    let a = w.property_array_u64(
+        &mut blob,
+        &mut strings,
+        given::name(line),
+        given::front_wide(&numbers, n),
+    );
+    let phandles = d.phandles;
+    after(a, blob, strings, phandles)
 }
 
 // Writes the property that a line asks for.
-pub fn run(w: FdtWriter, line: &[u8], blob: &mut Blob, strings: &mut Names) -> Answered {
-    let mut name = io::large_buffer();
-    let n = given::put_name(line, &mut name);
-    kinds(w, line, given::name(line, &name, n), blob, strings)
+pub fn run(d: Desk, line: &[u8]) -> Desk {
+    match verbs::asked(line) {
+        verbs::STRING | verbs::STRINGS => texts(d, line),
+        verbs::U32 => cells(d, line),
+        verbs::U64 => wide(d, line),
+        _ => bytes(d, line),
+    }
 }

@@ -1,4 +1,4 @@
--- `given::bytes` is safe and ends: each turn but the last writes a byte.
+-- `given::bytes` is safe and ends: each turn but the last fills an entry of the table.
 use Prim.Native.Nat.{_≤_, _-_}
 use borrow.Author.Needs.{needs}
 use Rattle.fdt_calls.proofs.given.bytes.Statement.{statement}

@@ -6,7 +6,7 @@ use Rattle.fdt_calls.proofs.given.reservations.Statement.{statement}
 use Rattle.fdt_calls.proofs.given.reservations.Tie as tie
 
 abbrev Inv-loop : tie.InvT-loop
-Inv-loop lines out₀ at₀ n₀ out at n = 0 ≤ n
+Inv-loop lines out₀ at₀ n₀ out at n = at ≤ length lines
 
 abbrev μ-loop : tie.MeasureT-loop
 μ-loop lines out₀ at₀ n₀ out at n = length lines - at

@@ -1,4 +1,4 @@
--- `scan::run_end` is safe and ends: the place comes nearer to the line's end.
+-- `scan::run_end` is safe and ends: each turn but the last comes nearer to the end of the line.
 use Prim.Native.Nat.{_≤_, _-_}
 use lib.ListN.{length}
 use borrow.Author.Needs.{needs}
@@ -6,7 +6,7 @@ use Rattle.fdt_calls.proofs.scan.run_end.Statement.{statement}
 use Rattle.fdt_calls.proofs.scan.run_end.Tie as tie
 
 abbrev Inv-loop : tie.InvT-loop
-Inv-loop line from blanks at₀ at = from ≤ at
+Inv-loop line from blanks at₀ at = 0 ≤ at
 
 abbrev μ-loop : tie.MeasureT-loop
 μ-loop line from blanks at₀ at = length line - at

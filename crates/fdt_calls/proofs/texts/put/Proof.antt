@@ -1,4 +1,4 @@
--- `texts::put` is safe and ends: each turn but the last writes a byte.
+-- `texts::put` is safe and ends: each turn but the last fills a byte of the text.
 use Prim.Native.Nat.{_≤_, _-_}
 use borrow.Author.Needs.{needs}
 use Rattle.fdt_calls.proofs.texts.put.Statement.{statement}

@@ -1,4 +1,4 @@
--- `wrong::late` is safe and ends: each turn comes nearer to the end of the lines.
+-- `wrong::late` is safe and ends: each turn but the last comes nearer to the end of the lines.
 use Prim.Native.Nat.{_≤_, _-_}
 use lib.ListN.{length}
 use borrow.Author.Needs.{needs}
@@ -6,7 +6,7 @@ use Rattle.fdt_calls.proofs.wrong.late.Statement.{statement}
 use Rattle.fdt_calls.proofs.wrong.late.Tie as tie
 
 abbrev Inv-loop : tie.InvT-loop
-Inv-loop lines at₀ at = 0 ≤ at
+Inv-loop lines at₀ at = at ≤ length lines
 
 abbrev μ-loop : tie.MeasureT-loop
 μ-loop lines at₀ at = length lines - at

@@ -6,10 +6,10 @@ use Rattle.fdt_write.proofs.list.run.Statement.{statement}
 use Rattle.fdt_write.proofs.list.run.Tie as tie
 
 abbrev Inv-loop : tie.InvT-loop
-Inv-loop lines blob₀ strings₀ phandles₀ w₀ at₀ blob strings phandles w at = 0 ≤ at
+Inv-loop lines d₀ at₀ t7 d at = at ≤ length lines
 
 abbrev μ-loop : tie.MeasureT-loop
-μ-loop lines blob₀ strings₀ phandles₀ w₀ at₀ blob strings phandles w at = length lines - at
+μ-loop lines d₀ at₀ t7 d at = length lines - at
 
 pub run-spec : {M : Type 1} → statement M
 run-spec =
@@ -17,7 +17,7 @@ run-spec =
     (tie.spec
     Inv-loop
     μ-loop
-    (λ c κs. search needs) (λ c κs. search needs) (λ c. search needs) (λ c. search needs) (λ c. search needs)
-    (λ c κs. search needs) (λ c. search needs) (λ c κs. search needs) (λ c κs. search needs) (λ c κs. search needs)
-    (λ c κs. search needs) (λ c. search needs) (λ c κs. search needs) (λ c κs. search needs) (λ c κs. search needs)
-    (λ c. search needs) (λ c. search needs) (λ c. search needs) (λ c κs. search needs) (λ c. search needs))
+    (λ c. search needs) (λ c κs. search needs) (λ c. search needs) (λ c κs. search needs) (λ c κs. search needs)
+    (λ c κs. search needs) (λ c κs. search needs) (λ c. search needs) (λ c κs. search needs) (λ c κs. search needs)
+    (λ c. search needs) (λ c. search needs) (λ c. search needs) (λ c κs. search needs) (λ c. search needs)
+    (λ c κs. search needs) (λ c κs. search needs) (λ c. search needs) (λ c. search needs))
