@@ -3,7 +3,7 @@ use mathlib.Core.Path.{_≡_, refl, sym, ap, _∙_}
 use mathlib.Core.Bool.{Bool, true, false, _&&_}
 use mathlib.Core.List.{List, [], _∷_, _++_, append-assoc, append-nil}
 use Prim.Native.Nat.{ℕ, zero, suc, _+_, _*_, _/_, _%_, _^_, _<_}
-use native.Mathlib.Nat.{add-comm, add-zero, add-suc, mul-suc, mul-zero, div-one, div-div-eq-div-mul, mod-one, mod-lt, mod-eq-of-lt, mul-assoc, one-le-pow, pow-suc, pow-succ'}
+use native.Mathlib.Nat.{add-comm, add-zero, add-suc, mul-suc, mul-zero, div-one, div-div-eq-div-mul, mod-one, mod-lt, mod-eq-of-lt, add-mul, mul-assoc, one-le-pow, pow-suc, pow-succ'}
 use native.Mathlib.Numerals.{add-one}
 use native.Mathlib.Omega.{arith}
 use borrow.Author.Tests.{ltb-true, lt-ltb}
@@ -11,7 +11,7 @@ use lib.Arith.{mod-mul, digits-div, digits-mod, digits-lt}
 use lib.Dec.{T, ltb, lit<}
 use lib.ListN.{length, take, getD, length-append}
 use lib.Seq.{take-suc}
-use lib.Pow.{areBytes}
+use lib.Pow.{areBytes, pow-add}
 use Rattle.fdt_bytes.specs.BigEndian.{bigEndian, fromBigEndian, cellBytes}
 
 pub length-bigEndian : (width v : ℕ) → length (bigEndian width v) ≡ width
@@ -20,17 +20,22 @@ length-bigEndian zero v = refl
 length-bigEndian (suc k) v =
     length-append (bigEndian k (v / 256)) (v % 256 ∷ []) ∙ ap (λ (n : ℕ). n + 1) (length-bigEndian k (v / 256)) ∙ add-one k
 
+-- bytes in two parts: the first counts as often as the second has numbers
+pub from-append : (bs cs : List ℕ) → fromBigEndian (bs ++ cs) ≡ fromBigEndian bs * 256 ^ length cs + fromBigEndian cs
+unfolding fromBigEndian
+from-append [] cs = omega arith
+from-append (x ∷ bs) cs =
+    let p = 256 ^ length bs in
+    let q = 256 ^ length cs in
+    let e : x * 256 ^ length (bs ++ cs) ≡ x * p * q =
+    ap (λ (n : ℕ). x * 256 ^ n) (length-append bs cs) ∙ ap (λ (n : ℕ). x * n) (pow-add 256 (length bs) (length cs)) ∙ sym (mul-assoc x p q)
+    in
+    omega (arith, from-append bs cs, add-mul (x * p) (fromBigEndian bs) q)
+
 -- one byte more at the end
 from-snoc : (bs : List ℕ) (b : ℕ) → fromBigEndian (bs ++ (b ∷ [])) ≡ fromBigEndian bs * 256 + b
 unfolding fromBigEndian
-from-snoc [] b = omega arith
-from-snoc (x ∷ bs) b =
-    let p = 256 ^ length bs in
-    let e : length (bs ++ (b ∷ [])) ≡ suc (length bs) = length-append bs (b ∷ []) ∙ add-one (length bs) in
-    let q : x * 256 ^ length (bs ++ (b ∷ [])) ≡ x * p * 256 =
-    ap (λ (n : ℕ). x * 256 ^ n) e ∙ ap (λ (n : ℕ). x * n) (pow-suc 256 (length bs)) ∙ sym (mul-assoc x p 256)
-    in
-    omega (arith, from-snoc bs b)
+from-snoc bs b = from-append bs (b ∷ []) ∙ omega arith
 
 -- reading back what was written gives the number, as far as the width holds it
 pub from-bigEndian : (width v : ℕ) → fromBigEndian (bigEndian width v) ≡ v % 256 ^ width
