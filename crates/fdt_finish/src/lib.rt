@@ -6,13 +6,11 @@ ghost use Rattle.fdt_header.specs.Header.{structureStart};
 ghost use Rattle.fdt_finish.specs.Boot.{boot};
 ghost use Rattle.fdt_finish.specs.Finish.{finishAnswer, finishedBlob, FinishOutcome};
 ghost use Rattle.fdt_finish.specs.Shown.{shown};
+use fdt_format::FDT_END;
 use fdt_header::Header;
 use fdt_record::Answer;
 use fdt_record::Outcome;
 use fdt_record::Record;
-
-// The word after the last node.
-pub const FDT_END: u32 = 9;
 
 // Sets the boot number.
 pub fn set_boot_cpuid_phys(w: Record, boot_cpuid_phys: u32) -> Outcome

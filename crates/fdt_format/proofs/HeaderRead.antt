@@ -9,7 +9,7 @@ use lib.ListN.{length, getD}
 use Rattle.fdt_format.specs.declared.Areas.{Areas}
 use Rattle.fdt_header.specs.Header.{magic, version, lastCompatible, headerSize, structureStart, headerWords, headerBytes}
 use Rattle.fdt_format.specs.Step.{wordAt}
-use Rattle.fdt_format.specs.Reading.{areasOf, goodHeader}
+use Rattle.fdt_format.specs.Reading.{areasOf, goodWords, goodAreas, goodHeader}
 use Rattle.fdt_format.proofs.Words.{Holds, cell-at}
 
 -- the areas of a blob with n reservations whose structure ends and whose strings begin at `strings`
@@ -40,7 +40,7 @@ module _ (b : List ℕ) (n strings stringsSize boot : ℕ) (h : Holds b 0 (heade
       rw (end, structure, at, reservations, number, size)
 
   pub header-good : goodHeader b ≡ true
-  unfolding goodHeader headerWords areasFrom
+  unfolding goodHeader goodWords goodAreas headerWords areasFrom
   header-good =
       let w₀ : wordAt b 0 ≡ magic = word 0 0 refl (omega arith) (omega arith) in
       let w₁ : wordAt b 4 ≡ length b = word 1 4 refl (omega arith) (omega arith) ∙ sym total in

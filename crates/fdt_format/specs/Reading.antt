@@ -26,19 +26,27 @@ areasOf b = record {
   boot = wordAt b 28;
 }
 
--- length equals total size and is at least 40; magic and versions match; reservations start at a multiple of 8 and the
--- structure at a multiple of 4; structure and strings lie inside (the reservations must hold their last pair inside)
-unfoldable pub goodHeader : List ℕ → Bool
-goodHeader b =
+-- length equals total size and is at least 40; magic and versions match
+unfoldable pub goodWords : List ℕ → Bool
+goodWords b =
     leb headerSize (length b)
     && eqb (wordAt b 0) magic
     && eqb (wordAt b 4) (length b)
     && eqb (wordAt b 20) version
     && eqb (wordAt b 24) lastCompatible
-    && eqb (areasOf b .reservations % 8) 0
-    && eqb (areasOf b .structure % 4) 0
-    && leb (areasOf b .«structure_end») (length b)
-    && leb (areasOf b .«strings_end») (length b)
+
+-- reservations start at a multiple of 8 and the structure at a multiple of 4; structure and strings lie inside a blob of
+-- that length (the reservations must hold their last pair inside)
+unfoldable pub goodAreas : Areas → ℕ → Bool
+goodAreas a n =
+    eqb (a .reservations % 8) 0
+    && eqb (a .structure % 4) 0
+    && leb (a .«structure_end») n
+    && leb (a .«strings_end») n
+
+-- both
+unfoldable pub goodHeader : List ℕ → Bool
+goodHeader b = goodWords b && goodAreas (areasOf b) (length b)
 
 -- the number of 8 bytes at a place
 unfoldable pub wideAt : List ℕ → ℕ → ℕ

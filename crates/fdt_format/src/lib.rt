@@ -1,5 +1,17 @@
 // What the reading of a blob speaks of. What a blob describes and how it is read is defined in specs/.
 
+// The word that begins a node.
+pub const FDT_BEGIN_NODE: u32 = 1;
+
+// The word that ends a node.
+pub const FDT_END_NODE: u32 = 2;
+
+// The word of a property.
+pub const FDT_PROP: u32 = 3;
+
+// The word after the last node.
+pub const FDT_END: u32 = 9;
+
 // The areas of a blob that its header names: where each begins, where structure and strings end; and the boot number.
 pub struct Areas {
     pub reservations: usize,

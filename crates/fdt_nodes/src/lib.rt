@@ -6,15 +6,11 @@ ghost use Rattle.fdt_bytes.specs.Splice.{splice};
 ghost use Rattle.fdt_format.specs.Tokens.{beginBytes};
 ghost use Rattle.fdt_nodes.specs.Begin.{beginAnswer, BeginOutcome};
 ghost use Rattle.fdt_nodes.specs.End.{endAnswer, EndOutcome};
+use fdt_format::FDT_BEGIN_NODE;
+use fdt_format::FDT_END_NODE;
 use fdt_record::Answer;
 use fdt_record::Outcome;
 use fdt_record::Record;
-
-// The word that begins a node.
-pub const FDT_BEGIN_NODE: u32 = 1;
-
-// The word that ends a node.
-pub const FDT_END_NODE: u32 = 2;
 
 // A node that was begun: the depth just after it began; 0 is never valid.
 pub struct FdtWriterNode(pub usize);

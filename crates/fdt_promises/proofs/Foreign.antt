@@ -5,9 +5,9 @@ use Rattle.fdt_bytes.specs.Padding.{padding, roundUp}
 use Rattle.fdt_format.specs.Events.{inFront, tell, whole, nodesOf}
 use Rattle.fdt_format.specs.Step.{pick, wordAt, zeroFrom, beginAt, propertyAt, endAt, finalAt, stepAt}
 use Rattle.fdt_format.specs.Walk.{steps, walk, start}
-use Rattle.fdt_format.specs.Reading.{areasOf, goodHeader, wideAt, reservation, reservationsAt, untilZero, nameAt, eventAt, walkNodes, described, readReservations, readNodes, reading}
+use Rattle.fdt_format.specs.Reading.{areasOf, goodWords, goodAreas, goodHeader, wideAt, reservation, reservationsAt, untilZero, nameAt, eventAt, walkNodes, described, readReservations, readNodes, reading}
 use Rattle.fdt_promises.specs.Foreign.{AllRead, alone, altered, only, nested, nest, ninetyTwo, tails, tailsSay, overlap, foreign}
 
 pub foreign-read : AllRead foreign
-unfolding bigEndian cellBytes fromBigEndian padding roundUp inFront tell whole nodesOf pick wordAt zeroFrom beginAt propertyAt endAt finalAt stepAt steps walk start areasOf goodHeader wideAt reservation reservationsAt untilZero nameAt eventAt walkNodes described readReservations readNodes reading AllRead alone altered only nested nest ninetyTwo tails tailsSay overlap foreign
+unfolding bigEndian cellBytes fromBigEndian padding roundUp inFront tell whole nodesOf pick wordAt zeroFrom beginAt propertyAt endAt finalAt stepAt steps walk start areasOf goodWords goodAreas goodHeader wideAt reservation reservationsAt untilZero nameAt eventAt walkNodes described readReservations readNodes reading AllRead alone altered only nested nest ninetyTwo tails tailsSay overlap foreign
 foreign-read = (refl, (refl, (refl, (refl, (refl, (refl, (refl, (refl, (refl, (refl, (refl, (refl, (refl, (refl, (refl, (refl, (refl, (refl, (refl, (refl, (refl, (refl, (refl, (refl, (refl, (refl, (refl, tt)))))))))))))))))))))))))))

@@ -11,14 +11,12 @@ ghost use Rattle.fdt_record.specs.Fields.{withUsedBlob, withUsedStrings};
 ghost use Rattle.fdt_record.specs.Rows.{first};
 ghost use Rattle.fdt_properties.specs.Tested.{PropertyTested, PlaceFits, PutFits};
 ghost use Rattle.fdt_properties.specs.Property.{placeOf, isFull, offsetOf, added, stored, stateRows, nameRows, PropertyOutcome};
+use fdt_format::FDT_PROP;
 use fdt_record::Answer;
 use fdt_record::Outcome;
 use fdt_record::Record;
 use fdt_strings::Interned;
 use fdt_values::Kind;
-
-// The word that begins a property.
-pub const FDT_PROP: u32 = 3;
 
 // Whether a new name does not fit.
 fn is_full(place: Interned) -> bool
