@@ -1,0 +1,46 @@
+-- Reservations are counted one by one, up to the all-zero pair.
+use mathlib.Core.Path.{_≡_, refl, sym, ap, _∙_}
+use mathlib.Core.Bool.{Bool, true, false, _&&_}
+use mathlib.Core.List.{List, [], _∷_}
+use mathlib.Core.Option.{Option, none, some}
+use Prim.Native.Nat.{ℕ, zero, suc, _+_, _-_, _≤_, _<_}
+use native.Mathlib.Omega.{arith}
+use native.Mathlib.Numerals.{add-one}
+use lib.Dec.{eqb}
+use lib.ListN.{length}
+use Rattle.fdt_format.specs.Description.{Reservation}
+use Rattle.fdt_format.specs.Step.{pick}
+use Rattle.fdt_format.specs.Reading.{wideAt, reservation, reservationsAt}
+use Rattle.fdt_format.proofs.Walks.{skip, hit}
+use Rattle.fdt_areas.specs.declared.Reserved.the-variants as reserved
+use Rattle.fdt_areas.specs.Counted.{counted}
+
+-- one reservation more in front
+one-more : (address size n : ℕ) (rs : Option (List Reservation)) → counted n (reservation address size rs) ≡ counted (n + 1) rs
+unfolding counted reservation
+one-more address size n none = refl
+one-more address size n (some rs) = ap reserved.Pairs (omega arith)
+
+-- whether the pair at a place is all zero
+abbrev pub zeroPair : List ℕ → ℕ → Bool
+zeroPair b at = eqb (wideAt b at) 0 && eqb (wideAt b (at + 8)) 0
+
+module _ (b : List ℕ) (n left at : ℕ) where
+  unrolled : 0 < left
+      → reservationsAt b left at ≡ pick (zeroPair b at) (some []) (reservation (wideAt b at) (wideAt b (at + 8)) (reservationsAt b (left - 1) (at + 16)))
+  unfolding reservationsAt
+  unrolled more = let e : left ≡ suc (left - 1) = omega arith in ap (λ (m : ℕ). reservationsAt b m at) e
+
+  -- the all-zero pair stands here
+  pub ends-here : 0 < left → zeroPair b at ≡ true → counted n (reservationsAt b left at) ≡ reserved.Pairs n
+  unfolding counted
+  ends-here more z = ap (counted n) (unrolled more ∙ hit _ _ z) ∙ ap reserved.Pairs (omega arith)
+
+  -- a reservation stands here
+  pub goes-on : 0 < left → zeroPair b at ≡ false → counted n (reservationsAt b left at) ≡ counted (n + 1) (reservationsAt b (left - 1) (at + 16))
+  goes-on more z = ap (counted n) (unrolled more ∙ skip _ _ z) ∙ one-more _ _ n _
+
+  -- no pair is left
+  pub none-left : left ≡ 0 → counted n (reservationsAt b left at) ≡ reserved.Endless
+  unfolding counted reservationsAt
+  none-left e = rw e
