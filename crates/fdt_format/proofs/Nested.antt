@@ -145,10 +145,10 @@ module _ (b : List ℕ) where
   here on s o ih (step.Bad n) k ts q = absurd (bad-not-good q)
 
   module _ (a : Areas) where
-    ordered : (k : ℕ) (s : State) → Open s → (ts : List Entry) → steps b a k s ≡ good ts → Ordered s (map (eventAt b) ts)
+    ordered : (k : ℕ) (s : State) → Open s → (ts : List Entry) → steps (stepAt b a) k s ≡ good ts → Ordered s (map (eventAt b) ts)
     unfolding steps
     ordered zero s o ts q = absurd (bad-not-good q)
-    ordered (suc k) s o ts q = here (steps b a k) s o (ordered k) (stepAt b a s) (step-kinds b a s) ts q
+    ordered (suc k) s o ts q = here (steps (stepAt b a) k) s o (ordered k) (stepAt b a s) (step-kinds b a s) ts q
 
     -- a walk that is accepted tells nodes
     pub nested : (ts : List Entry) → walk b a (start a) ≡ good ts → (f : Nodes) × (nodesOf (map (eventAt b) ts) ≡ some f)

@@ -88,7 +88,7 @@ pub record Moved (a : Areas) (s s' : State) : Type 0 where
   pub within : s' .at ≤ a .«structure_end»
 
 -- of what stands at a state: an entry moves it so
-unfoldable Moves : Areas → State → Step → Type 0
+unfoldable pub Moves : Areas → State → Step → Type 0
 Moves a s (step.Entry t s') = Moved a s s'
 Moves a s step.Final = Unit {0}
 Moves a s (step.Bad n) = Unit {0}
@@ -123,7 +123,7 @@ module _ (b : List ℕ) (a : Areas) (s : State) (w : s .at ≤ a .«structure_en
   unfolding finalAt Moves
   final-moves = by-test (Moves a s) _ _ _ (λ _. by-test (Moves a s) _ _ _ (λ _. tt) (λ _. tt)) (λ _. tt)
 
-  step-moves : Moves a s (stepAt b a s)
+  pub step-moves : Moves a s (stepAt b a s)
   unfolding Moves
   step-moves = by-token (Moves a s) b a s (λ _. tt) begin-moves end-moves (λ _. property-moves) final-moves
 
@@ -140,24 +140,25 @@ follow-same a s (step.Entry t s') m g h same = ap (more t) (same s' m)
 follow-same a s step.Final m g h same = refl
 follow-same a s (step.Bad n) m g h same = refl
 
-module _ (b : List ℕ) (a : Areas) where
+module _ (a : Areas) (token : State → Step) (moves : (s : State) → s .at ≤ a .«structure_end» → Moves a s (token s)) where
   -- any bound above what is left gives the same
-  pub fuel : (k l : ℕ) (s : State) → s .at ≤ a .«structure_end» → a .«structure_end» - s .at < k → a .«structure_end» - s .at < l → steps b a k s ≡ steps b a l s
+  pub fuel : (k l : ℕ) (s : State) → s .at ≤ a .«structure_end» → a .«structure_end» - s .at < k → a .«structure_end» - s .at < l → steps token k s ≡ steps token l s
   unfolding steps
   fuel zero l s w p q = absurd (omega arith)
   fuel (suc k) zero s w p q = absurd (omega arith)
   fuel (suc k) (suc l) s w p q =
-      follow-same a s (stepAt b a s) (step-moves b a s w) (steps b a k) (steps b a l)
+      follow-same a s (token s) (moves s w) (steps token k) (steps token l)
       λ s' m. fuel k l s' (m .within) (omega (arith, m .on, m .within)) (omega (arith, m .on, m .within))
 
-  enough : (k : ℕ) (s : State) → s .at ≤ a .«structure_end» → a .«structure_end» - s .at < k → steps b a k s ≡ walk b a s
-  unfolding walk
-  enough k s w p = fuel k _ s w p (omega arith)
-
-  -- a walk is its first token and the walk on from it
-  pub walk-step : (s : State) → s .at ≤ a .«structure_end» → walk b a s ≡ follow (stepAt b a s) (walk b a)
+  -- tokens to the end are the first and those to the end from it on
+  pub first-step : (s : State) → s .at ≤ a .«structure_end»
+      → steps token (suc (a .«structure_end» - s .at)) s ≡ follow (token s) (λ (s' : State). steps token (suc (a .«structure_end» - s' .at)) s')
   unfolding steps
-  walk-step s w =
-      let left : ℕ = a .«structure_end» - s .at in
-      sym (enough (suc left) s w (omega arith))
-      ∙ follow-same a s (stepAt b a s) (step-moves b a s w) (steps b a left) (walk b a) λ s' m. enough left s' (m .within) (omega (arith, m .on, m .within))
+  first-step s w =
+      follow-same a s (token s) (moves s w) (steps token (a .«structure_end» - s .at)) (λ (s' : State). steps token (suc (a .«structure_end» - s' .at)) s')
+      λ s' m. fuel (a .«structure_end» - s .at) (suc (a .«structure_end» - s' .at)) s' (m .within) (omega (arith, m .on, m .within)) (omega arith)
+
+-- a walk is its first token and the walk on from it
+pub walk-step : (b : List ℕ) (a : Areas) (s : State) → s .at ≤ a .«structure_end» → walk b a s ≡ follow (stepAt b a s) (walk b a)
+unfolding walk
+walk-step b a s w = first-step a (stepAt b a) (step-moves b a) s w

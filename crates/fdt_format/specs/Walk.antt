@@ -25,14 +25,14 @@ follow (step.Entry t s) on = more t (on s)
 follow step.Final on = good []
 follow (step.Bad n) on = bad n
 
--- at most k tokens
-unfoldable pub steps : List ℕ → Areas → ℕ → State → Walk
-steps b a zero s = bad disorder
-steps b a (suc k) s = follow (stepAt b a s) (steps b a k)
+-- at most k tokens, by what stands at each state
+unfoldable pub steps : (State → Step) → ℕ → State → Walk
+steps token zero s = bad disorder
+steps token (suc k) s = follow (token s) (steps token k)
 
 -- all tokens: each takes a byte at least, so that this bound refuses nothing (`walk-step`)
 unfoldable pub walk : List ℕ → Areas → State → Walk
-walk b a s = steps b a (suc (a .«structure_end» - s .at)) s
+walk b a s = steps (stepAt b a) (suc (a .«structure_end» - s .at)) s
 
 -- where a walk begins: no node is open, and no property may stand here
 unfoldable pub start : Areas → State
