@@ -100,7 +100,7 @@ fn zero_pair(blob: &[u8], at: usize) -> bool
 // How many reservations begin at a place before the all-zero pair, which must be one of `most` pairs.
 fn pairs_from(blob: &[u8], from: usize, most: usize) -> Reserved
     requires { ⌜ from + 16 * most ≤ length (now blob) ⌝ }
-    ensures { λ r. ⌜ r ≡ counted 0 (reservationsAt (now (blob .entry)) most from) ⌝ }
+    ensures { λ r. ⌜ r ≡ counted (reservationsAt (now (blob .entry)) most from) ⌝ }
 {
     let mut at = from;
     let mut left = most;
@@ -118,7 +118,7 @@ fn pairs_from(blob: &[u8], from: usize, most: usize) -> Reserved
 
 // How many reservations a blob has.
 pub fn reservations_of(blob: &[u8], a: Areas) -> Reserved
-    ensures { λ r. ⌜ r ≡ counted 0 (readReservations (now (blob .entry)) a) ⌝ }
+    ensures { λ r. ⌜ r ≡ counted (readReservations (now (blob .entry)) a) ⌝ }
 {
     let at = a.reservations;
     if blob.len() < at {

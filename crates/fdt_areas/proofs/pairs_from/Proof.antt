@@ -5,19 +5,19 @@ use native.Mathlib.Omega.{arith}
 use lib.ListN.{length}
 use Rattle.fdt_format.specs.Reading.{reservationsAt}
 use Rattle.fdt_areas.specs.Counted.{counted}
-use Rattle.fdt_areas.proofs.Pairs.{ends-here, goes-on, none-left}
+use Rattle.fdt_areas.proofs.Pairs.{countedFrom, from-0, ends-here, goes-on, none-left}
 use Rattle.fdt_areas.proofs.pairs_from.Statement.{statement}
 use Rattle.fdt_areas.proofs.pairs_from.Tie as tie
 
 abbrev Inv-loop : tie.InvT-loop
 Inv-loop blob from most at₀ left₀ n₀ at left n =
-    (at + 16 * left ≤ length blob) × ((n + left ≡ most) × (counted 0 (reservationsAt blob most from) ≡ counted n (reservationsAt blob left at)))
+    (at + 16 * left ≤ length blob) × ((n + left ≡ most) × (counted (reservationsAt blob most from) ≡ countedFrom n (reservationsAt blob left at)))
 
 abbrev μ-loop : tie.MeasureT-loop
 μ-loop blob from most at₀ left₀ n₀ at left n = left
 
 loop-holds : tie.Need-loop-holds Inv-loop μ-loop
-loop-holds c = (c .before .pre, (omega arith, refl))
+loop-holds c = (c .before .pre, (omega arith, from-0 _))
 
 zero-pair-requires : tie.Need-zero-pair-requires Inv-loop μ-loop
 zero-pair-requires c κs = omega arith
