@@ -1,5 +1,4 @@
 -- `good_words` makes the tests of `goodWords` in their order.
-use mathlib.Core.Path.{_≡_, refl}
 use borrow.Author.Needs.{needs}
 use borrow.Author.Tests.{le-leb, lt-leb, eq-eqb, ne-eqb}
 use Rattle.fdt_format.specs.Reading.{goodWords}

@@ -1,6 +1,4 @@
 -- `round_up` adds the padding, which is less than 4.
-use mathlib.Core.Path.{ap}
-use Prim.Native.Nat.{ℕ, _+_}
 use native.Mathlib.Omega.{arith}
 use borrow.Author.Needs.{needs}
 use Rattle.fdt_bytes.specs.Padding.{roundUp}

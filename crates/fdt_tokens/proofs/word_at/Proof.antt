@@ -1,5 +1,5 @@
 -- `word_at` sums the four bytes of the word, which `word-bytes` says.
-use mathlib.Core.Path.{sym, _∙_}
+use mathlib.Core.Path.{sym}
 use borrow.Author.Needs.{needs}
 use Rattle.fdt_tokens.proofs.Words.{word-bytes}
 use Rattle.fdt_tokens.proofs.word_at.Statement.{statement}
