@@ -5,7 +5,7 @@
 help:
 	@echo 'make demo                proves what a blob needs, builds a pond station'"'"'s, and shows it'
 	@echo 'make test                the merge gate: its last line is N passed, 0 failed'
-	@echo 'make compare SEEDS=20    fdt_replay against the original crate, on so many random lists and every short input'
+	@echo 'make compare SEEDS=20    test_replay against the original crate, on so many random lists and every short input'
 	@echo 'make outside             finished blobs read by dtc and libfdt'
 	@echo 'make mutants             wrong programs, and which list catches each: docs/COMPARISON.md (it takes long)'
 	@echo 'make bench               the time of a build beside the original crate: docs/PERFORMANCE.md'

@@ -4,7 +4,7 @@ use vm_fdt::FdtWriter;
 
 extern "C" {
     // Ours: opens a writer, makes the calls, and tells how long the shown blob is.
-    fn fdt_bench(
+    fn export_bench(
         calls: *const usize,
         calls_len: usize,
         text: *const u8,
@@ -74,7 +74,7 @@ fn ours(w: &Work, lent: &mut Lent) -> usize {
     // five numbers stand in a row in every call, so the list is one list of numbers
     let numbers = w.calls.as_flattened();
     unsafe {
-        fdt_bench(
+        export_bench(
             numbers.as_ptr(),
             numbers.len(),
             w.text.as_ptr(),

@@ -7,7 +7,7 @@ import subprocess
 
 TOP = os.path.dirname(os.path.dirname(os.path.dirname(os.path.abspath(__file__))))
 ORACLE = os.path.join(TOP, "tools", "oracle")
-PROGRAM = os.path.join(TOP, "target", "bin", "fdt_replay")
+PROGRAM = os.path.join(TOP, "target", "bin", "test_replay")
 # The lines that begin the sample in the program's own stdin; tools/oracle/sample writes it.
 SAMPLE = b"quiet\n# The sample that tools/oracle/sample wrote, by: "
 # A program that has not ended after so many seconds never will.

@@ -3,7 +3,7 @@
 use crate::list::{line, prepare, Step};
 use crate::model::{Call, Model, Value};
 
-// The longest list that fdt_replay reads.
+// The longest list that test_replay reads.
 const LONGEST: usize = 1_048_575;
 
 // Random numbers (splitmix64).

@@ -1,4 +1,4 @@
-// Writes call lists for fdt_replay, and foretells what it must write of them: by a model of document 01, held to the crate.
+// Writes call lists for test_replay, and foretells what it must write of them: by a model of document 01, held to the crate.
 mod beside;
 mod gen;
 mod list;
@@ -14,7 +14,7 @@ const USAGE: &str = "usage: oracle gen SEED [BYTES]   a random list of about so 
        oracle gen names          every short name of a small alphabet, begun and as a property
        oracle gen calls PART     every row of five calls from a small set, in parts from 0 on; nothing past the last
        oracle gen corners        a fixed list of rooms met exactly and records broken in one place
-       oracle expect [COUNTS]    reads a list, writes what fdt_replay must write of it in quiet mode,
+       oracle expect [COUNTS]    reads a list, writes what test_replay must write of it in quiet mode,
                                  and to the file COUNTS how often each call had each answer";
 
 // The check value of bytes: 64-bit FNV-1a.

@@ -1,0 +1,57 @@
+-- Reservations are counted one by one, up to the all-zero pair.
+use mathlib.Core.Path.{_≡_, refl, ap, _∙_}
+use mathlib.Core.Bool.{Bool, true, false, _&&_}
+use mathlib.Core.List.{List, []}
+use mathlib.Core.Option.{Option, none, some}
+use Prim.Native.Nat.{ℕ, suc, _+_, _-_, _<_}
+use native.Mathlib.Omega.{arith}
+use lib.Dec.{eqb}
+use lib.ListN.{length}
+use Rattle.fdt_format.specs.Description.{Reservation}
+use Rattle.fdt_format.specs.Step.{pick}
+use Rattle.fdt_format.specs.Reading.{wideAt, reservation, reservationsAt}
+use Rattle.fdt_format.proofs.Walks.{skip, hit}
+use Rattle.fdt_read_header.specs.declared.Reserved.{Reserved}
+use Rattle.fdt_read_header.specs.declared.Reserved.the-variants as reserved
+use Rattle.fdt_read_header.specs.Counted.{counted}
+
+-- the same behind n reservations
+unfoldable pub countedFrom : ℕ → Option (List Reservation) → Reserved
+countedFrom n none = reserved.Endless
+countedFrom n (some rs) = reserved.Pairs (n + length rs)
+
+-- behind none it is the same
+pub from-0 : (rs : Option (List Reservation)) → counted rs ≡ countedFrom 0 rs
+unfolding counted countedFrom
+from-0 none = refl
+from-0 (some rs) = ap reserved.Pairs (omega arith)
+
+-- one reservation more in front
+one-more : (address size n : ℕ) (rs : Option (List Reservation)) → countedFrom n (reservation address size rs) ≡ countedFrom (n + 1) rs
+unfolding countedFrom reservation
+one-more address size n none = refl
+one-more address size n (some rs) = ap reserved.Pairs (omega arith)
+
+-- whether the pair at a place is all zero
+abbrev pub zeroPair : List ℕ → ℕ → Bool
+zeroPair b at = eqb (wideAt b at) 0 && eqb (wideAt b (at + 8)) 0
+
+module _ (b : List ℕ) (n left at : ℕ) where
+  unrolled : 0 < left
+      → reservationsAt b left at ≡ pick (zeroPair b at) (some []) (reservation (wideAt b at) (wideAt b (at + 8)) (reservationsAt b (left - 1) (at + 16)))
+  unfolding reservationsAt
+  unrolled more = let e : left ≡ suc (left - 1) = omega arith in ap (λ (m : ℕ). reservationsAt b m at) e
+
+  -- the all-zero pair stands here
+  pub ends-here : 0 < left → zeroPair b at ≡ true → countedFrom n (reservationsAt b left at) ≡ reserved.Pairs n
+  unfolding countedFrom
+  ends-here more z = ap (countedFrom n) (unrolled more ∙ hit _ _ z) ∙ ap reserved.Pairs (omega arith)
+
+  -- a reservation stands here
+  pub goes-on : 0 < left → zeroPair b at ≡ false → countedFrom n (reservationsAt b left at) ≡ countedFrom (n + 1) (reservationsAt b (left - 1) (at + 16))
+  goes-on more z = ap (countedFrom n) (unrolled more ∙ skip _ _ z) ∙ one-more _ _ n _
+
+  -- no pair is left
+  pub none-left : left ≡ 0 → countedFrom n (reservationsAt b left at) ≡ reserved.Endless
+  unfolding countedFrom reservationsAt
+  none-left e = rw e

@@ -1,0 +1,63 @@
+-- `good_words` makes the tests of `goodWords` in their order.
+use borrow.Author.Needs.{needs}
+use borrow.Author.Tests.{le-leb, lt-leb, eq-eqb, ne-eqb}
+use Rattle.fdt_format.specs.Reading.{goodWords}
+use Rattle.fdt_read_header.proofs.good_words.Statement.{statement}
+use Rattle.fdt_read_header.proofs.good_words.Tie as tie
+
+returns : tie.Need-returns
+unfolding goodWords
+returns c = rw (lt-leb _ _ (c .if1 .taken))
+
+returns-2 : tie.Need-returns-2
+unfolding goodWords
+returns-2 c = rw (le-leb _ _ (c .before .before .if1 .left), ← c .before .word-at .ensures, ne-eqb _ _ (c .if2 .taken))
+
+returns-3 : tie.Need-returns-3
+unfolding goodWords
+returns-3 c =
+    let w = c .before .before .before in
+    rw (le-leb _ _ (w .before .if1 .left), ← w .word-at .ensures, eq-eqb _ _ (c .before .before .if2 .left), ← c .before .word-at2 .ensures, ne-eqb _ _ (c .if3 .taken))
+
+returns-4 : tie.Need-returns-4
+unfolding goodWords
+returns-4 c =
+    let w = c .before .before .before .before .before in
+    rw (
+      le-leb _ _ (w .before .if1 .left),
+      ← w .word-at .ensures,
+      eq-eqb _ _ (c .before .before .before .before .if2 .left),
+      ← c .before .before .before .word-at2 .ensures,
+      eq-eqb _ _ (c .before .before .if3 .left),
+      ← c .before .word-at3 .ensures,
+      ne-eqb _ _ (c .if4 .taken),
+    )
+
+returns-5 : tie.Need-returns-5
+unfolding goodWords
+returns-5 c =
+    let w = c .before .before .before .before .before .before in
+    rw (
+      le-leb _ _ (w .before .if1 .left),
+      ← w .word-at .ensures,
+      eq-eqb _ _ (c .before .before .before .before .before .if2 .left),
+      ← c .before .before .before .before .word-at2 .ensures,
+      eq-eqb _ _ (c .before .before .before .if3 .left),
+      ← c .before .before .word-at3 .ensures,
+      eq-eqb _ _ (c .before .if4 .left),
+      ← c .word-at4 .ensures,
+    )
+
+pub good-words-spec : {M : Type 1} → statement M
+good-words-spec =
+    tie.close
+    (tie.spec
+    returns
+    (λ c κs. search needs)
+    returns-2
+    (λ c κs. search needs) (λ c. search needs)
+    returns-3
+    (λ c κs. search needs)
+    returns-4
+    (λ c κs. search needs)
+    returns-5)

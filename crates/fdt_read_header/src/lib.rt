@@ -1,0 +1,128 @@
+// The header of a lent blob, the areas that it names, and its reservations.
+use fdt_format::Areas;
+use fdt_header::Header;
+use fdt_header::RESERVATION_SIZE;
+use fdt_read_token::word_at;
+ghost use mathlib.Core.Path.{_≡_};
+ghost use mathlib.Core.Bool.{_&&_};
+ghost use Prim.Native.Nat.{_+_, _*_, _≤_, _<_, _^_};
+ghost use lib.Dec.{eqb};
+ghost use lib.ListN.{length};
+ghost use Rattle.fdt_format.specs.Reading.{areasOf, goodWords, goodAreas, wideAt, reservationsAt, readReservations};
+ghost use Rattle.fdt_format.specs.Step.{wordAt};
+ghost use Rattle.fdt_read_header.specs.Counted.{counted};
+
+// How many reservations there are before the all-zero pair, or none where there is no such pair.
+pub enum Reserved {
+    Pairs(usize),
+    Endless,
+}
+
+// Whether a blob's length is its total size and magic and versions match.
+pub fn good_words(blob: &[u8]) -> bool
+    ensures { λ r. ⌜ r ≡ goodWords (now (blob .entry)) ⌝ }
+{
+    if blob.len() < Header::SIZE {
+        return false;
+    }
+    if word_at(blob, 0) != Header::MAGIC {
+        return false;
+    }
+    if word_at(blob, 4) as usize != blob.len() {
+        return false;
+    }
+    if word_at(blob, 20) != Header::VERSION {
+        return false;
+    }
+    word_at(blob, 24) == Header::LAST_COMP_VERSION
+}
+
+// The word at a place, as a number of bytes.
+fn size_at(blob: &[u8], at: usize) -> usize
+    requires { ⌜ at + 4 ≤ length (now blob) ⌝ }
+    ensures { λ r. ⌜ (r ≡ wordAt (now (blob .entry)) at) × (r < 2 ^ 32) ⌝ }
+{
+    word_at(blob, at) as usize
+}
+
+// The areas that a header names, and the boot number.
+pub fn areas_of(blob: &[u8]) -> Areas
+    requires { ⌜ 40 ≤ length (now blob) ⌝ }
+    ensures { λ r. ⌜ r ≡ areasOf (now (blob .entry)) ⌝ }
+{
+    let structure = size_at(blob, 8);
+    let strings = size_at(blob, 12);
+    Areas {
+        reservations: size_at(blob, 16),
+        structure,
+        structure_end: structure + size_at(blob, 36),
+        strings,
+        strings_end: strings + size_at(blob, 32),
+        boot: word_at(blob, 28),
+    }
+}
+
+// Whether the areas are aligned, and structure and strings lie inside a blob of that length.
+pub fn good_areas(a: Areas, length: usize) -> bool
+    ensures { λ r. ⌜ r ≡ goodAreas a length ⌝ }
+{
+    if a.reservations % 8 != 0 {
+        return false;
+    }
+    if a.structure % 4 != 0 {
+        return false;
+    }
+    if length < a.structure_end {
+        return false;
+    }
+    a.strings_end <= length
+}
+
+// The number of 8 bytes at a place.
+pub fn wide_at(blob: &[u8], at: usize) -> u64
+    requires { ⌜ at + 8 ≤ length (now blob) ⌝ }
+    ensures { λ r. ⌜ r ≡ wideAt (now (blob .entry)) at ⌝ }
+{
+    word_at(blob, at) as u64 * 0x1_0000_0000 + word_at(blob, at + 4) as u64
+}
+
+// Whether the reservation at a place is the all-zero pair.
+fn zero_pair(blob: &[u8], at: usize) -> bool
+    requires { ⌜ at + 16 ≤ length (now blob) ⌝ }
+    ensures { λ r. ⌜ r ≡ (eqb (wideAt (now (blob .entry)) at) 0 && eqb (wideAt (now (blob .entry)) (at + 8)) 0) ⌝ }
+{
+    if wide_at(blob, at) != 0 {
+        return false;
+    }
+    wide_at(blob, at + 8) == 0
+}
+
+// How many reservations begin at a place before the all-zero pair, which must be one of `most` pairs.
+fn pairs_from(blob: &[u8], from: usize, most: usize) -> Reserved
+    requires { ⌜ from + 16 * most ≤ length (now blob) ⌝ }
+    ensures { λ r. ⌜ r ≡ counted (reservationsAt (now (blob .entry)) most from) ⌝ }
+{
+    let mut at = from;
+    let mut left = most;
+    let mut n = 0;
+    while 0 < left {
+        if zero_pair(blob, at) {
+            return Reserved::Pairs(n);
+        }
+        at += RESERVATION_SIZE;
+        left -= 1;
+        n += 1;
+    }
+    Reserved::Endless
+}
+
+// How many reservations a blob has.
+pub fn reservations_of(blob: &[u8], a: Areas) -> Reserved
+    ensures { λ r. ⌜ r ≡ counted (readReservations (now (blob .entry)) a) ⌝ }
+{
+    let at = a.reservations;
+    if blob.len() < at {
+        return Reserved::Endless;
+    }
+    pairs_from(blob, at, (blob.len() - at) / RESERVATION_SIZE)
+}

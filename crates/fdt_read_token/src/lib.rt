@@ -1,0 +1,188 @@
+// One token of a lent blob: what stands at a state of the reading.
+use fdt_format::Areas;
+use fdt_format::Entry;
+use fdt_format::FDT_BEGIN_NODE;
+use fdt_format::FDT_END;
+use fdt_format::FDT_END_NODE;
+use fdt_format::FDT_PROP;
+use fdt_format::State;
+use fdt_format::Step;
+ghost use mathlib.Core.Path.{_≡_};
+ghost use Prim.Native.Nat.{_+_, _-_, _≤_, _<_, _^_};
+ghost use lib.ListN.{length};
+ghost use Rattle.fdt_bytes.specs.Padding.{roundUp};
+ghost use Rattle.fdt_format.specs.Step.{wordAt, zeroFrom, beginAt, propertyAt, endAt, finalAt, stepAt};
+ghost use Rattle.fdt_read_token.specs.Inside.{Inside, Fits};
+
+// A token out of order, or one that is not whole.
+pub const DISORDER: u32 = 23;
+
+// A name offset that meets no 0.
+pub const NAMELESS: u32 = 24;
+
+// A byte as a word.
+fn wide(x: u8) -> u32
+    ensures { λ r. ⌜ (r ≡ x) × (r < 256) ⌝ }
+{
+    x as u32
+}
+
+// The word at a place.
+pub fn word_at(blob: &[u8], at: usize) -> u32
+    requires { ⌜ at + 4 ≤ length (now blob) ⌝ }
+    ensures { λ r. ⌜ r ≡ wordAt (now (blob .entry)) at ⌝ }
+{
+    wide(blob[at]) * 0x100_0000
+        + wide(blob[at + 1]) * 0x1_0000
+        + wide(blob[at + 2]) * 0x100
+        + wide(blob[at + 3])
+}
+
+// The first place from `at` on and before `end` that holds a 0; otherwise the later of the two.
+pub fn zero_from(blob: &[u8], at: usize, end: usize) -> usize
+    requires { ⌜ end ≤ length (now blob) ⌝ }
+    ensures { λ r. ⌜ r ≡ zeroFrom (now (blob .entry)) (end - at) at ⌝ }
+{
+    if end < at {
+        return at;
+    }
+    bytes::scan::find(blob, at, end, 0)
+}
+
+// A length rounded up to a multiple of 4.
+fn round_up(n: usize) -> usize
+    requires { ⌜ n < 2 ^ 40 ⌝ }
+    ensures { λ r. ⌜ r ≡ roundUp 4 n ⌝ }
+{
+    n + fdt_bytes::padding_of(n, 4)
+}
+
+// A node that begins at a state: its name and the padding end inside the structure.
+fn begin_at(blob: &[u8], a: Areas, s: State) -> Step
+    requires { ⌜ (s .at + 4 ≤ a .«structure_end») × (Inside (now blob) a × Fits a s) ⌝ }
+    ensures { λ r. ⌜ r ≡ beginAt (now (blob .entry)) a s ⌝ }
+{
+    let at = s.at;
+    let name = at + 4;
+    let zero = zero_from(blob, name, a.structure_end);
+    if a.structure_end <= zero {
+        return Step::Bad(DISORDER);
+    }
+    let next = round_up(zero + 1);
+    if a.structure_end < next {
+        return Step::Bad(DISORDER);
+    }
+    Step::Entry(
+        Entry {
+            token: FDT_BEGIN_NODE,
+            place: at as u32,
+            name: name as u32,
+            size: 0,
+        },
+        State {
+            at: next,
+            depth: s.depth + 1,
+            room: true,
+        },
+    )
+}
+
+// A property at a state: its words, value and padding end inside the structure, and its name meets a 0 inside the strings.
+fn property_at(blob: &[u8], a: Areas, s: State) -> Step
+    requires { ⌜ (s .at + 4 ≤ a .«structure_end») × (Inside (now blob) a × Fits a s) ⌝ }
+    ensures { λ r. ⌜ r ≡ propertyAt (now (blob .entry)) a s ⌝ }
+{
+    let at = s.at;
+    let left = a.structure_end - at;
+    if left < 12 {
+        return Step::Bad(DISORDER);
+    }
+    let size = word_at(blob, at + 4);
+    let whole = round_up(size as usize);
+    if left - 12 < whole {
+        return Step::Bad(DISORDER);
+    }
+    let name = a.strings + word_at(blob, at + 8) as usize;
+    if a.strings_end <= zero_from(blob, name, a.strings_end) {
+        return Step::Bad(NAMELESS);
+    }
+    Step::Entry(
+        Entry {
+            token: FDT_PROP,
+            place: at as u32,
+            name: name as u32,
+            size,
+        },
+        State {
+            at: at + 12 + whole,
+            depth: s.depth,
+            room: true,
+        },
+    )
+}
+
+// A node that ends at a state.
+fn end_at(s: State) -> Step
+    requires { ⌜ s .at < 2 ^ 32 ⌝ }
+    ensures { λ r. ⌜ r ≡ endAt s ⌝ }
+{
+    let at = s.at;
+    if s.depth == 0 {
+        return Step::Bad(DISORDER);
+    }
+    Step::Entry(
+        Entry {
+            token: FDT_END_NODE,
+            place: at as u32,
+            name: 0,
+            size: 0,
+        },
+        State {
+            at: at + 4,
+            depth: s.depth - 1,
+            room: false,
+        },
+    )
+}
+
+// The final word at a state.
+fn final_at(a: Areas, s: State) -> Step
+    requires { ⌜ s .at < 2 ^ 32 ⌝ }
+    ensures { λ r. ⌜ r ≡ finalAt a s ⌝ }
+{
+    if s.depth != 0 {
+        return Step::Bad(DISORDER);
+    }
+    if s.at + 4 != a.structure_end {
+        return Step::Bad(DISORDER);
+    }
+    Step::Final
+}
+
+// What stands at a state.
+pub fn step_at(blob: &[u8], a: Areas, s: State) -> Step
+    requires { ⌜ Inside (now blob) a × Fits a s ⌝ }
+    ensures { λ r. ⌜ r ≡ stepAt (now (blob .entry)) a s ⌝ }
+{
+    let at = s.at;
+    if a.structure_end - at < 4 {
+        return Step::Bad(DISORDER);
+    }
+    let word = word_at(blob, at);
+    if word == FDT_BEGIN_NODE {
+        return begin_at(blob, a, s);
+    }
+    if word == FDT_END_NODE {
+        return end_at(s);
+    }
+    if word == FDT_PROP {
+        if s.room {
+            return property_at(blob, a, s);
+        }
+        return Step::Bad(DISORDER);
+    }
+    if word == FDT_END {
+        return final_at(a, s);
+    }
+    Step::Bad(DISORDER)
+}

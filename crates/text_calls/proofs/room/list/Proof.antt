@@ -1,0 +1,12 @@
+-- `room::list` is as long as it says: the list's length is not counted out.
+use Prim.Native.Nat.{ℕ}
+use mathlib.Core.Path.{sym}
+use lib.ListN.{length-replicate}
+use Rattle.text_calls.proofs.room.list.Statement.{statement}
+use Rattle.text_calls.proofs.room.list.Tie as tie
+
+returns : tie.Need-returns
+returns c = sym (length-replicate {0} {A = ℕ} 1048576 0)
+
+pub list-spec : {M : Type 1} → statement M
+list-spec = tie.close (tie.spec returns)

@@ -1,0 +1,22 @@
+-- `told::place` is safe and ends: each turn comes nearer to the end of the lines.
+use Prim.Native.Nat.{_≤_, _-_}
+use lib.ListN.{length}
+use borrow.Author.Needs.{needs}
+use Rattle.text_calls.proofs.told.place.Statement.{statement}
+use Rattle.text_calls.proofs.told.place.Tie as tie
+
+abbrev Inv-loop : tie.InvT-loop
+Inv-loop lines at₀ n₀ t4 t5 at n = at ≤ length lines
+
+abbrev μ-loop : tie.MeasureT-loop
+μ-loop lines at₀ n₀ t4 t5 at n = length lines - at
+
+pub place-spec : {M : Type 1} → statement M
+place-spec =
+    tie.close
+    (tie.spec
+    Inv-loop
+    μ-loop
+    (λ c. search needs) (λ c κs. search needs) (λ c κs. search needs) (λ c. search needs) (λ c. search needs)
+    (λ c. search needs) (λ c κs. search needs) (λ c κs. search needs) (λ c. search needs) (λ c κs. search needs)
+    (λ c. search needs))
