@@ -13,7 +13,7 @@ use Rattle.fdt_format.specs.Events.{propertyEvents, events}
 use Rattle.fdt_header.specs.Header.{reservationBytes, headerWords, headerBytes}
 use Rattle.fdt_format.specs.Tokens.{beginBytes, propertyBytes, endBytes, finalBytes}
 use Rattle.fdt_format.specs.Reading.{reading}
-use Rattle.fdt_format.specs.Blob.{orAtEnd, withName, namesFrom, namesOf, placeOf, offsetOf, eventBytes, structureBytes, numbersOf, blobFrom, blobOf, Plain, AllPlain, AllTold, WellFormed}
+use Rattle.fdt_format.specs.Blob.{orAtEnd, withName, namesFrom, namesOf, foundAt, offsetOf, eventBytes, structureBytes, numbersOf, blobFrom, blobOf, Plain, AllPlain, AllTold, WellFormed}
 use Rattle.fdt_format.proofs.ReadBack.{read-blob}
 
 -- "a" is 5 in the first node and empty in its child "b"
@@ -39,7 +39,7 @@ exampleBytes =
     97 ∷ 0 ∷ []
 
 pub example-blob : blobOf example ≡ exampleBytes
-unfolding example exampleBytes blobOf blobFrom events propertyEvents namesOf namesFrom withName orAtEnd firstFrom same structureBytes eventBytes offsetOf placeOf beginBytes propertyBytes endBytes finalBytes reservationBytes numbersOf headerBytes headerWords cellBytes bigEndian padded padding zeros entry joined
+unfolding example exampleBytes blobOf blobFrom events propertyEvents namesOf namesFrom withName orAtEnd firstFrom same structureBytes eventBytes offsetOf foundAt beginBytes propertyBytes endBytes finalBytes reservationBytes numbersOf headerBytes headerWords cellBytes bigEndian padded padding zeros entry joined
 example-blob = refl
 
 example-small : length exampleBytes < 2 ^ 32

@@ -1,4 +1,4 @@
--- A walk that is accepted tells nodes: the depth and the room of its states are what puts events in order. So a reading
+-- A walk that is accepted tells nodes: the depth of its states, and whether they take a property, put events in order. So a reading
 -- refuses only what header, reservations or walk refuse.
 use mathlib.Core.Path.{_≡_, refl, sym, ap, subst, _∙_}
 use mathlib.Core.Bool.{Bool, true, false, not, false≢true}
@@ -38,13 +38,13 @@ module _ (b : List ℕ) (t : Entry) where
   unfolding eventAt
   event-has e = skip _ _ (rw e) ∙ skip _ _ (rw e)
 
--- ---- how a token moves depth and room
+-- ---- how a token moves the state
 
--- an entry begins a node, is a property where there is room, or ends a node
+-- an entry begins a node, is a property where one is taken, or ends a node
 data Kind (b : List ℕ) (s : State) (t : Entry) (s' : State) : Type 0 where
-  opens : (name : List ℕ) → eventAt b t ≡ begins name → s' .depth ≡ suc (s .depth) → s' .room ≡ true → Kind b s t s'
-  adds : (p : Property) → eventAt b t ≡ has p → s' .depth ≡ s .depth → s .room ≡ true → s' .room ≡ true → Kind b s t s'
-  closes : eventAt b t ≡ ends → suc (s' .depth) ≡ s .depth → s' .room ≡ false → Kind b s t s'
+  opens : (name : List ℕ) → eventAt b t ≡ begins name → s' .depth ≡ suc (s .depth) → s' .«takes_property» ≡ true → Kind b s t s'
+  adds : (p : Property) → eventAt b t ≡ has p → s' .depth ≡ s .depth → s .«takes_property» ≡ true → s' .«takes_property» ≡ true → Kind b s t s'
+  closes : eventAt b t ≡ ends → suc (s' .depth) ≡ s .depth → s' .«takes_property» ≡ false → Kind b s t s'
 
 -- of what stands at a state: the final word stands where no node is open
 unfoldable Kinds : List ℕ → State → Step → Type 0
@@ -60,7 +60,7 @@ module _ (b : List ℕ) (a : Areas) (s : State) where
       λ _. by-test (Kinds b s) _ _ _ (λ _. tt)
       λ _. opens _ (event-begins b _ refl) (omega arith) refl
 
-  property-kinds : s .room ≡ true → Kinds b s (propertyAt b a s)
+  property-kinds : s .«takes_property» ≡ true → Kinds b s (propertyAt b a s)
   unfolding propertyAt Kinds
   property-kinds r =
       by-test (Kinds b s) _ _ _ (λ _. tt)
@@ -84,13 +84,13 @@ module _ (b : List ℕ) (a : Areas) (s : State) where
 
 -- ---- one token more in front
 
--- there is room for a property only in a node
+-- a property is taken only in a node
 unfoldable Open : State → Type 0
-Open s = s .room ≡ true → 0 < s .depth
+Open s = s .«takes_property» ≡ true → 0 < s .depth
 
 -- the events from a state on are in order
 unfoldable Ordered : State → List Event → Type 0
-Ordered s es = Accepted (s .depth) (not (s .room)) es
+Ordered s es = Accepted (s .depth) (not (s .«takes_property»)) es
 
 open-on : {b : List ℕ} {s s' : State} {t : Entry} → Kind b s t s' → Open s → Open s'
 unfolding Open

@@ -1,4 +1,4 @@
--- Nodes and their events determine each other, and events are those of nodes exactly where depth and room accept them.
+-- Nodes and their events determine each other, and events are those of nodes exactly where the state accepts them.
 use mathlib.Core.Path.{_≡_, refl, ap, sym, _∙_}
 use mathlib.Core.Bool.{Bool, true, false, false≢true}
 use mathlib.Core.List.{List, [], _∷_, cons≢nil}

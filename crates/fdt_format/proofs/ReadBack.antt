@@ -22,7 +22,7 @@ use Rattle.fdt_format.proofs.ReservationsRead.{length-reservations, res
 use Rattle.fdt_format.proofs.Structure.{structure-size}
 use Rattle.fdt_format.proofs.Tokens.{length-final}
 use Rattle.fdt_format.proofs.Walks.{hit}
-use Rattle.fdt_format.proofs.Words.{Holds, holds-left, holds-right}
+use Rattle.fdt_format.proofs.Words.{BytesAt, bytes-left, bytes-right}
 use Rattle.fdt_format.proofs.Written.{Laid, nodes-read}
 
 module _ (rs : List Reservation) (boot : ℕ) (es : List Event) where
@@ -39,15 +39,15 @@ module _ (rs : List Reservation) (boot : ℕ) (es : List Event) where
   behind = structureBytes (namesOf es) es ++ finalBytes (joined (namesOf es))
 
   -- each part stands where the header says
-  whole-held : Holds (blobFrom rs boot es) 0 (header ++ (reservationBytes (numbersOf rs) ++ behind))
+  whole-held : BytesAt (blobFrom rs boot es) 0 (header ++ (reservationBytes (numbersOf rs) ++ behind))
   unfolding blobFrom
   whole-held = record { before = []; behind = []; split = sym (append-nil _); place = refl }
 
-  rest-held : Holds (blobFrom rs boot es) headerSize (reservationBytes (numbersOf rs) ++ behind)
-  rest-held = holds-right header (reservationBytes (numbersOf rs) ++ behind) whole-held headerSize (omega (arith, length-header (length rs) stringsStart (length (joined (namesOf es))) boot))
+  rest-held : BytesAt (blobFrom rs boot es) headerSize (reservationBytes (numbersOf rs) ++ behind)
+  rest-held = bytes-right header (reservationBytes (numbersOf rs) ++ behind) whole-held headerSize (omega (arith, length-header (length rs) stringsStart (length (joined (namesOf es))) boot))
 
-  structure-held : Holds (blobFrom rs boot es) (structureStart (length rs)) behind
-  structure-held = holds-right (reservationBytes (numbersOf rs)) behind rest-held (structureStart (length rs)) (omega (arith, length-reservations rs))
+  structure-held : BytesAt (blobFrom rs boot es) (structureStart (length rs)) behind
+  structure-held = bytes-right (reservationBytes (numbersOf rs)) behind rest-held (structureStart (length rs)) (omega (arith, length-reservations rs))
 
   -- how long it is
   pub length-from : length (blobFrom rs boot es) ≡ structureStart (length rs) + length (structureBytes (namesOf es) es) + 4 + length (joined (namesOf es))
@@ -61,8 +61,8 @@ module _ (rs : List Reservation) (boot : ℕ) (es : List Event) where
     areas : Areas
     areas = areasFrom (length rs) stringsStart (length (joined (namesOf es))) boot
 
-    header-held : Holds (blobFrom rs boot es) 0 header
-    header-held = holds-left header (reservationBytes (numbersOf rs) ++ behind) whole-held
+    header-held : BytesAt (blobFrom rs boot es) 0 header
+    header-held = bytes-left header (reservationBytes (numbersOf rs) ++ behind) whole-held
 
     laid : Laid (blobFrom rs boot es) areas es
     unfolding areasFrom areas
@@ -79,7 +79,7 @@ module _ (rs : List Reservation) (boot : ℕ) (es : List Event) where
     unfolding readReservations areasFrom areas
     reserved-read t =
         reservations-read (blobFrom rs boot es) rs ((length (blobFrom rs boot es) - headerSize) / 16) headerSize t (omega (arith, length-from))
-        (holds-left (reservationBytes (numbersOf rs)) behind rest-held)
+        (bytes-left (reservationBytes (numbersOf rs)) behind rest-held)
 
     -- the blob of reservations, a boot number and events in order is read as these, and the nodes that the events tell
     pub read-from : AllTold rs → AllPlain es → Accepted 0 false es → reading (blobFrom rs boot es) ≡ described boot (some rs) (nodesOf es)

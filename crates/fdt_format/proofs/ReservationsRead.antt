@@ -17,7 +17,7 @@ use Rattle.fdt_header.specs.Header.{reservationBytes}
 use Rattle.fdt_format.specs.Reading.{wideAt, reservation, reservationsAt}
 use Rattle.fdt_format.specs.Blob.{numbersOf, AllTold}
 use Rattle.fdt_format.proofs.Walks.{skip, hit}
-use Rattle.fdt_format.proofs.Words.{Holds, holds-left, holds-right, cell-at}
+use Rattle.fdt_format.proofs.Words.{BytesAt, bytes-left, bytes-right, cell-at}
 
 length-numbers : (rs : List Reservation) → length (numbersOf rs) ≡ 2 * length rs
 unfolding numbersOf
@@ -53,22 +53,22 @@ no-end address size h = go (eqb address 0) refl
 
 module _ (b : List ℕ) where
   -- a pair of numbers
-  pair-at : (address size at : ℕ) (more : List ℕ) → address < 2 ^ 64 → size < 2 ^ 64 → Holds b at (cellBytes 8 (address ∷ size ∷ more)) → (wideAt b at ≡ address) × (wideAt b (at + 8) ≡ size)
+  pair-at : (address size at : ℕ) (more : List ℕ) → address < 2 ^ 64 → size < 2 ^ 64 → BytesAt b at (cellBytes 8 (address ∷ size ∷ more)) → (wideAt b at ≡ address) × (wideAt b (at + 8) ≡ size)
   unfolding wideAt
   pair-at address size at more i j h = (
     cell-at 8 (address ∷ size ∷ more) 0 at h (omega arith) (omega arith) (omega arith),
     cell-at 8 (address ∷ size ∷ more) 1 (at + 8) h (omega arith) (omega arith) (omega arith),
   )
 
-  pub reservations-read : (rs : List Reservation) (k at : ℕ) → AllTold rs → length rs < k → Holds b at (reservationBytes (numbersOf rs)) → reservationsAt b k at ≡ some rs
+  pub reservations-read : (rs : List Reservation) (k at : ℕ) → AllTold rs → length rs < k → BytesAt b at (reservationBytes (numbersOf rs)) → reservationsAt b k at ≡ some rs
   unfolding reservationsAt reservation AllTold numbersOf
   reservations-read rs zero at t l h = absurd (omega arith)
   reservations-read [] (suc k) at t l h =
-      let p = pair-at 0 0 at [] (omega arith) (omega arith) (subst (Holds b at) end-pair h) in
+      let p = pair-at 0 0 at [] (omega arith) (omega arith) (subst (BytesAt b at) end-pair h) in
       rw (p .0, p .1) (hit _ _ refl)
   reservations-read (reserved address size ∷ rs) (suc k) at t l h =
       let two : List ℕ = address ∷ size ∷ [] in
-      let g = subst (Holds b at) (next-pair address size (numbersOf rs)) h in
-      let p = pair-at address size at [] (t .0) (t .1) (holds-left (cellBytes 8 two) (reservationBytes (numbersOf rs)) g) in
-      let others = holds-right (cellBytes 8 two) (reservationBytes (numbersOf rs)) g (at + 16) (ap (λ (n : ℕ). at + n) (length-cells 8 two)) in
+      let g = subst (BytesAt b at) (next-pair address size (numbersOf rs)) h in
+      let p = pair-at address size at [] (t .0) (t .1) (bytes-left (cellBytes 8 two) (reservationBytes (numbersOf rs)) g) in
+      let others = bytes-right (cellBytes 8 two) (reservationBytes (numbersOf rs)) g (at + 16) (ap (λ (n : ℕ). at + n) (length-cells 8 two)) in
       rw (p .0, p .1) (skip _ _ (no-end address size (t .2)) ∙ ap (reservation address size) (reservations-read rs k (at + 16) (t .3) (omega arith) others))

@@ -12,7 +12,7 @@ use Rattle.fdt_strings.specs.Entries.{entries, firstFrom, findString, same, joi
 use Rattle.fdt_strings.proofs.Entries.{eq-same, entries-joined, first-after, found-stands, Stands, no-entry, next-entry, Plain as PlainNames}
 use Rattle.fdt_format.specs.Description.{_≔_}
 use Rattle.fdt_format.specs.Events.{Event, begins, has, ends}
-use Rattle.fdt_format.specs.Blob.{orAtEnd, withName, namesFrom, namesOf, placeOf, offsetOf, Plain, AllPlain}
+use Rattle.fdt_format.specs.Blob.{orAtEnd, withName, namesFrom, namesOf, foundAt, offsetOf, Plain, AllPlain}
 
 -- ---- a name that is found stays where it is
 
@@ -36,7 +36,7 @@ module _ (names more : List (List ℕ)) (name : List ℕ) (h : Has names name) w
 
   pub offset-stays : offsetOf (names ++ more) name ≡ offsetOf names name
   unfolding Has offsetOf
-  offset-stays = ap placeOf (first-stays name 0 (h .0) names more (h .1) ∙ sym (h .1))
+  offset-stays = ap foundAt (first-stays name 0 (h .0) names more (h .1) ∙ sym (h .1))
 
 -- ---- one name more
 
@@ -122,7 +122,7 @@ names-plain (ends ∷ es) a p = names-plain es (a .1) p
 module _ {names : List (List ℕ)} (p : PlainNames names) where
   -- a name that is found stands in the strings, at its offset
   pub has-stands : (name : List ℕ) → Has names name → Stands (joined names) name (offsetOf names name)
-  unfolding Has offsetOf placeOf findString
+  unfolding Has offsetOf foundAt findString
   has-stands name h =
       let f : firstFrom 0 (entries (joined names)) name ≡ At (h .0) = ap (λ (l : List (List ℕ)). firstFrom 0 l name) (entries-joined p) ∙ h .1 in
       rw (h .1) (found-stands (joined names) name (h .0) f)

@@ -23,7 +23,7 @@ use Rattle.fdt_format.specs.Blob.{offsetOf, eventSize}
 use Rattle.fdt_format.proofs.Named.{zero-found, name-read}
 use Rattle.fdt_format.proofs.Nested.{event-begins, event-ends, event-has}
 use Rattle.fdt_format.proofs.Walks.{skip, hit}
-use Rattle.fdt_format.proofs.Words.{Holds, holds-left, holds-right, holds-take, holds-fits, number-at, cell-at}
+use Rattle.fdt_format.proofs.Words.{BytesAt, bytes-left, bytes-right, bytes-take, bytes-fits, number-at, cell-at}
 
 -- ---- what each event makes of a state
 
@@ -34,14 +34,14 @@ depthAfter depth (has p) = depth
 depthAfter depth ends = depth - 1
 
 -- whether a property may stand after it
-unfoldable pub roomAfter : Event → Bool
-roomAfter (begins name) = true
-roomAfter (has p) = true
-roomAfter ends = false
+unfoldable pub takesAfter : Event → Bool
+takesAfter (begins name) = true
+takesAfter (has p) = true
+takesAfter ends = false
 
 -- the state after it
 unfoldable pub after : State → Event → State
-after s e = record { at = s .at + eventSize e; depth = depthAfter (s .depth) e; room = roomAfter e }
+after s e = record { at = s .at + eventSize e; depth = depthAfter (s .depth) e; «takes_property» = takesAfter e }
 
 -- every event takes a multiple of 4 bytes
 pub size-multiple : (e : Event) → eventSize e % 4 ≡ 0
@@ -56,7 +56,7 @@ unfolding roundUp padding
 round-from at n m = omega arith
 
 -- a word that was written is read
-pub word-at : {b : List ℕ} {at : ℕ} (v : ℕ) → Holds b at (bigEndian 4 v) → v < 2 ^ 32 → wordAt b at ≡ v
+pub word-at : {b : List ℕ} {at : ℕ} (v : ℕ) → BytesAt b at (bigEndian 4 v) → v < 2 ^ 32 → wordAt b at ≡ v
 unfolding wordAt
 word-at v h l = number-at 4 v h (omega arith)
 
@@ -82,22 +82,22 @@ pub record Read (b : List ℕ) (a : Areas) (names : List (List ℕ)) (s : State)
   pub told : eventAt b (entryOf a names s e) ≡ e
 
 -- states at the same place
-same-place : {t : Entry} {depth : ℕ} {room : Bool} {i j : ℕ} → i ≡ j → step.Entry t (record { at = i; depth = depth; room = room }) ≡ step.Entry t (record { at = j; depth = depth; room = room })
+same-place : {t : Entry} {depth : ℕ} {room : Bool} {i j : ℕ} → i ≡ j → step.Entry t (record { at = i; depth = depth; «takes_property» = room }) ≡ step.Entry t (record { at = j; depth = depth; «takes_property» = room })
 same-place e = rw e
 
 -- a name stands in the strings of a blob
 pub record Named (b : List ℕ) (a : Areas) (names : List (List ℕ)) (name : List ℕ) : Type 0 where
   pub plain : NoZero name
-  pub held : Holds b (a .strings + offsetOf names name) (entry name)
+  pub held : BytesAt b (a .strings + offsetOf names name) (entry name)
   pub within : offsetOf names name + length name + 1 ≤ a .«strings_end» - a .strings
 
 module _ (b : List ℕ) (a : Areas) (names : List (List ℕ)) (s : State) where
-  pub begin-read : (name : List ℕ) → s .at % 4 ≡ 0 → Holds b (s .at) (beginBytes name) → s .at + eventSize (begins name) ≤ a .«structure_end» → NoZero name → Read b a names s (begins name)
-  unfolding beginBytes padded entry stepAt beginAt entryOf after depthAfter roomAfter eventSize roundUp
+  pub begin-read : (name : List ℕ) → s .at % 4 ≡ 0 → BytesAt b (s .at) (beginBytes name) → s .at + eventSize (begins name) ≤ a .«structure_end» → NoZero name → Read b a names s (begins name)
+  unfolding beginBytes padded entry stepAt beginAt entryOf after depthAfter takesAfter eventSize roundUp
   begin-read name m h le z =
-      let w : wordAt b (s .at) ≡ beginToken = word-at 1 (holds-left (bigEndian 4 1) (padded 4 (entry name)) h) (omega arith) in
-      let n : Holds b (s .at + 4) (entry name) =
-      holds-left (entry name) (zeros (padding 4 (length (entry name)))) (holds-right (bigEndian 4 1) (padded 4 (entry name)) h (s .at + 4) (ap (λ (k : ℕ). s .at + k) (length-bigEndian 4 1)))
+      let w : wordAt b (s .at) ≡ beginToken = word-at 1 (bytes-left (bigEndian 4 1) (padded 4 (entry name)) h) (omega arith) in
+      let n : BytesAt b (s .at + 4) (entry name) =
+      bytes-left (entry name) (zeros (padding 4 (length (entry name)))) (bytes-right (bigEndian 4 1) (padded 4 (entry name)) h (s .at + 4) (ap (λ (k : ℕ). s .at + k) (length-bigEndian 4 1)))
       in
       let f : zeroFrom b (a .«structure_end» - (s .at + 4)) (s .at + 4) ≡ s .at + 4 + length name = zero-found (a .«structure_end») z n (omega arith) in
       let t₁ : 4 ≤ a .«structure_end» - s .at = omega arith in
@@ -111,8 +111,8 @@ module _ (b : List ℕ) (a : Areas) (names : List (List ℕ)) (s : State) where
         told = event-begins b (entryOf a names s (begins name)) refl ∙ ap begins (name-read z n);
       }
 
-  pub end-read : Holds b (s .at) endBytes → s .at + eventSize ends ≤ a .«structure_end» → 0 < s .depth → Read b a names s ends
-  unfolding endBytes stepAt endAt entryOf after depthAfter roomAfter eventSize
+  pub end-read : BytesAt b (s .at) endBytes → s .at + eventSize ends ≤ a .«structure_end» → 0 < s .depth → Read b a names s ends
+  unfolding endBytes stepAt endAt entryOf after depthAfter takesAfter eventSize
   end-read h le d =
       let w : wordAt b (s .at) ≡ endToken = word-at 2 h (omega arith) in
       let t₁ : 4 ≤ a .«structure_end» - s .at = omega arith in
@@ -121,17 +121,17 @@ module _ (b : List ℕ) (a : Areas) (names : List (List ℕ)) (s : State) where
         told = event-ends b (entryOf a names s ends) refl;
       }
 
-  pub property-read : (name value : List ℕ) → length b < 2 ^ 32 → Holds b (s .at) (propertyBytes (offsetOf names name) value) → s .at + eventSize (has (name ≔ value)) ≤ a .«structure_end» → s .room ≡ true → Named b a names name → Read b a names s (has (name ≔ value))
-  unfolding propertyBytes padded entry stepAt propertyAt entryOf after depthAfter roomAfter eventSize wordAt
+  pub property-read : (name value : List ℕ) → length b < 2 ^ 32 → BytesAt b (s .at) (propertyBytes (offsetOf names name) value) → s .at + eventSize (has (name ≔ value)) ≤ a .«structure_end» → s .«takes_property» ≡ true → Named b a names name → Read b a names s (has (name ≔ value))
+  unfolding propertyBytes padded entry stepAt propertyAt entryOf after depthAfter takesAfter eventSize wordAt
   property-read name value small h le room n =
       let offset = offsetOf names name in
       let words : List ℕ = propertyToken ∷ length value ∷ offset ∷ [] in
-      let c : Holds b (s .at) (cellBytes 4 words) = holds-left (cellBytes 4 words) (padded 4 value) h in
-      let v : Holds b (s .at + 12) value =
-      holds-left value (zeros (padding 4 (length value))) (holds-right (cellBytes 4 words) (padded 4 value) h (s .at + 12) (ap (λ (k : ℕ). s .at + k) (length-cells 4 words)))
+      let c : BytesAt b (s .at) (cellBytes 4 words) = bytes-left (cellBytes 4 words) (padded 4 value) h in
+      let v : BytesAt b (s .at + 12) value =
+      bytes-left value (zeros (padding 4 (length value))) (bytes-right (cellBytes 4 words) (padded 4 value) h (s .at + 12) (ap (λ (k : ℕ). s .at + k) (length-cells 4 words)))
       in
-      let i : length value < 256 ^ 4 = omega (arith, holds-fits v) in
-      let j : offset < 256 ^ 4 = omega (arith, holds-fits (n .held)) in
+      let i : length value < 256 ^ 4 = omega (arith, bytes-fits v) in
+      let j : offset < 256 ^ 4 = omega (arith, bytes-fits (n .held)) in
       let w : wordAt b (s .at) ≡ propertyToken = cell-at 4 words 0 (s .at) c (omega arith) (omega arith) (omega arith) in
       let w₁ : wordAt b (s .at + 4) ≡ length value = cell-at 4 words 1 (s .at + 4) c (omega arith) i (omega arith) in
       let w₂ : wordAt b (s .at + 8) ≡ offset = cell-at 4 words 2 (s .at + 8) c (omega arith) j (omega arith) in
@@ -146,12 +146,12 @@ module _ (b : List ℕ) (a : Areas) (names : List (List ℕ)) (s : State) where
             rw (w, w₁, w₂, f)
             (skip _ _ (le-ltb _ _ t₁) ∙ skip _ _ refl ∙ skip _ _ refl ∙ hit _ _ refl ∙ hit _ _ room
             ∙ skip _ _ (le-ltb _ _ t₂) ∙ skip _ _ (le-ltb _ _ t₃) ∙ skip _ _ (lt-leb _ _ k) ∙ same-place (let r : s .at + 12 + roundUp 4 (length value) ≡ s .at + (12 + roundUp 4 (length value)) = omega arith in r));
-        told = event-has b (entryOf a names s (has (name ≔ value))) refl ∙ rw (name-read (n .plain) (n .held), holds-take v (length value) refl);
+        told = event-has b (entryOf a names s (has (name ≔ value))) refl ∙ rw (name-read (n .plain) (n .held), bytes-take v (length value) refl);
       }
 
-  pub final-read : (strings : List ℕ) → Holds b (s .at) (finalBytes strings) → s .at + 4 ≡ a .«structure_end» → s .depth ≡ 0 → stepAt b a s ≡ step.Final
+  pub final-read : (strings : List ℕ) → BytesAt b (s .at) (finalBytes strings) → s .at + 4 ≡ a .«structure_end» → s .depth ≡ 0 → stepAt b a s ≡ step.Final
   unfolding finalBytes stepAt finalAt
   final-read strings h le d =
-      let w : wordAt b (s .at) ≡ finalToken = word-at 9 (holds-left (bigEndian 4 9) strings h) (omega arith) in
+      let w : wordAt b (s .at) ≡ finalToken = word-at 9 (bytes-left (bigEndian 4 9) strings h) (omega arith) in
       let t₁ : 4 ≤ a .«structure_end» - s .at = omega arith in
       rw w (skip _ _ (le-ltb _ _ t₁) ∙ skip _ _ refl ∙ skip _ _ refl ∙ skip _ _ refl ∙ hit _ _ refl ∙ hit _ _ (eq-eqb _ _ d) ∙ hit _ _ (eq-eqb _ _ le))

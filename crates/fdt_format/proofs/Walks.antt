@@ -67,7 +67,7 @@ zero-ge b (suc k) at =
 
 -- what holds of every refusal and of each token, where it is read, holds of what stands at a state
 pub by-token : (P : Step → Type 0) (b : List ℕ) (a : Areas) (s : State) → ((n : ℕ) → P (step.Bad n)) → P (beginAt b a s)
-    → (ltb (a .«structure_end» - s .at) 4 ≡ false → P (endAt s)) → (s .room ≡ true → P (propertyAt b a s)) → P (finalAt a s) → P (stepAt b a s)
+    → (ltb (a .«structure_end» - s .at) 4 ≡ false → P (endAt s)) → (s .«takes_property» ≡ true → P (propertyAt b a s)) → P (finalAt a s) → P (stepAt b a s)
 unfolding stepAt
 by-token P b a s refused begin end property final =
     by-test P _ _ _ (λ _. refused _)

@@ -10,29 +10,29 @@ use Rattle.fdt_bytes.specs.BigEndian.{bigEndian, fromBigEndian, cellBytes}
 use Rattle.fdt_bytes.proofs.BigEndian.{length-bigEndian, round-trip}
 
 -- what stands at a place of bytes: these, and then others
-pub record Holds (b : List ℕ) (at : ℕ) (bs : List ℕ) : Type 0 where
+pub record BytesAt (b : List ℕ) (at : ℕ) (bs : List ℕ) : Type 0 where
   pub before : List ℕ
   pub behind : List ℕ
   pub split : b ≡ before ++ (bs ++ behind)
   pub place : length before ≡ at
 
-module _ {b : List ℕ} {at : ℕ} {bs : List ℕ} (h : Holds b at bs) where
-  pub holds-drop : drop at b ≡ bs ++ h .behind
-  holds-drop = ap (drop at) (h .split) ∙ drop-at (h .before) (bs ++ h .behind) at (h .place)
+module _ {b : List ℕ} {at : ℕ} {bs : List ℕ} (h : BytesAt b at bs) where
+  pub bytes-drop : drop at b ≡ bs ++ h .behind
+  bytes-drop = ap (drop at) (h .split) ∙ drop-at (h .before) (bs ++ h .behind) at (h .place)
 
-  pub holds-fits : at + length bs ≤ length b
-  holds-fits = omega (arith, h .place, simp length-append at (ap length (h .split)))
+  pub bytes-fits : at + length bs ≤ length b
+  bytes-fits = omega (arith, h .place, simp length-append at (ap length (h .split)))
 
-  pub holds-take : (n : ℕ) → length bs ≡ n → take n (drop at b) ≡ bs
-  holds-take n e = ap (take n) holds-drop ∙ take-at bs (h .behind) n e
+  pub bytes-take : (n : ℕ) → length bs ≡ n → take n (drop at b) ≡ bs
+  bytes-take n e = ap (take n) bytes-drop ∙ take-at bs (h .behind) n e
 
 -- the first part of what stands there, and the second
-module _ {b : List ℕ} {at : ℕ} (bs cs : List ℕ) (h : Holds b at (bs ++ cs)) where
-  pub holds-left : Holds b at bs
-  holds-left = record { before = h .before; behind = cs ++ h .behind; split = h .split ∙ simp append-assoc; place = h .place }
+module _ {b : List ℕ} {at : ℕ} (bs cs : List ℕ) (h : BytesAt b at (bs ++ cs)) where
+  pub bytes-left : BytesAt b at bs
+  bytes-left = record { before = h .before; behind = cs ++ h .behind; split = h .split ∙ simp append-assoc; place = h .place }
 
-  pub holds-right : (to : ℕ) → at + length bs ≡ to → Holds b to cs
-  holds-right to e = record {
+  pub bytes-right : (to : ℕ) → at + length bs ≡ to → BytesAt b to cs
+  bytes-right to e = record {
     before = h .before ++ bs;
     behind = h .behind;
     split = h .split ∙ simp append-assoc;
@@ -40,16 +40,16 @@ module _ {b : List ℕ} {at : ℕ} (bs cs : List ℕ) (h : Holds b at (bs ++ cs)
   }
 
 -- a number of any width
-pub number-at : {b : List ℕ} {at : ℕ} (width v : ℕ) → Holds b at (bigEndian width v) → v < 256 ^ width → fromBigEndian (take width (drop at b)) ≡ v
-number-at width v h l = ap fromBigEndian (holds-take h width (length-bigEndian width v)) ∙ round-trip width v l
+pub number-at : {b : List ℕ} {at : ℕ} (width v : ℕ) → BytesAt b at (bigEndian width v) → v < 256 ^ width → fromBigEndian (take width (drop at b)) ≡ v
+number-at width v h l = ap fromBigEndian (bytes-take h width (length-bigEndian width v)) ∙ round-trip width v l
 
 -- the k-th number of several
-pub cell-at : {b : List ℕ} {at : ℕ} (width : ℕ) (vs : List ℕ) (k to : ℕ) → Holds b at (cellBytes width vs) → k < length vs → getD vs k 0 < 256 ^ width → at + width * k ≡ to → fromBigEndian (take width (drop to b)) ≡ getD vs k 0
+pub cell-at : {b : List ℕ} {at : ℕ} (width : ℕ) (vs : List ℕ) (k to : ℕ) → BytesAt b at (cellBytes width vs) → k < length vs → getD vs k 0 < 256 ^ width → at + width * k ≡ to → fromBigEndian (take width (drop to b)) ≡ getD vs k 0
 unfolding cellBytes
 cell-at width [] k to h i l e = absurd (omega arith)
 cell-at {b} {at} width (v ∷ vs) zero to h i l e =
     let f : to ≡ at = omega (arith, mul-zero width) in
-    ap (λ (n : ℕ). fromBigEndian (take width (drop n b))) f ∙ number-at width v (holds-left (bigEndian width v) (cellBytes width vs) h) l
+    ap (λ (n : ℕ). fromBigEndian (take width (drop n b))) f ∙ number-at width v (bytes-left (bigEndian width v) (cellBytes width vs) h) l
 cell-at {b} {at} width (v ∷ vs) (suc k) to h i l e =
-    let rest = holds-right (bigEndian width v) (cellBytes width vs) h (at + width) (ap (λ (n : ℕ). at + n) (length-bigEndian width v)) in
+    let rest = bytes-right (bigEndian width v) (cellBytes width vs) h (at + width) (ap (λ (n : ℕ). at + n) (length-bigEndian width v)) in
     cell-at width vs k to rest (omega arith) l (omega (arith, mul-suc width k))

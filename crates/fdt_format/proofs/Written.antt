@@ -21,21 +21,21 @@ use Rattle.fdt_format.specs.Blob.{namesOf, offsetOf, eventBytes, structu
 use Rattle.fdt_format.proofs.Nodes.{Accepted}
 use Rattle.fdt_format.proofs.Strings.{Has, AllHas, has-stands, names-plain, names-have}
 use Rattle.fdt_format.proofs.Structure.{event-size, structure-size}
-use Rattle.fdt_format.proofs.TokensRead.{depthAfter, roomAfter, after, size-multiple, entryOf, entriesOf, Read, Named, begin-read, end-read, property-read, final-read}
+use Rattle.fdt_format.proofs.TokensRead.{depthAfter, takesAfter, after, size-multiple, entryOf, entriesOf, Read, Named, begin-read, end-read, property-read, final-read}
 use Rattle.fdt_format.proofs.Walks.{walk-step}
-use Rattle.fdt_format.proofs.Words.{Holds, holds-left, holds-right}
+use Rattle.fdt_format.proofs.Words.{BytesAt, bytes-left, bytes-right}
 
 -- names that are found stand in the strings, where a blob holds them
-module _ (b : List ℕ) (a : Areas) (names : List (List ℕ)) (p : PlainNames names) (h : Holds b (a .strings) (joined names)) (l : a .strings + length (joined names) ≡ a .«strings_end») where
+module _ (b : List ℕ) (a : Areas) (names : List (List ℕ)) (p : PlainNames names) (h : BytesAt b (a .strings) (joined names)) (l : a .strings + length (joined names) ≡ a .«strings_end») where
   named : (name : List ℕ) → Has names name → Named b a names name
   unfolding entry
   named name f =
       let w : Stands (joined names) name (offsetOf names name) = has-stands p name f in
       let q : joined names ≡ w .before ++ (entry name ++ w .behind) = w .split ∙ ap (λ (x : List ℕ). w .before ++ x) (sym (append-assoc name (0 ∷ []) (w .behind))) in
-      let g : Holds b (a .strings) (w .before ++ (entry name ++ w .behind)) = subst (Holds b (a .strings)) q h in
+      let g : BytesAt b (a .strings) (w .before ++ (entry name ++ w .behind)) = subst (BytesAt b (a .strings)) q h in
       record {
         plain = w .plain;
-        held = holds-left (entry name) (w .behind) (holds-right (w .before) (entry name ++ w .behind) g (a .strings + offsetOf names name) (ap (λ (k : ℕ). a .strings + k) (w .place)));
+        held = bytes-left (entry name) (w .behind) (bytes-right (w .before) (entry name ++ w .behind) g (a .strings + offsetOf names name) (ap (λ (k : ℕ). a .strings + k) (w .place)));
         within = omega (arith, stands-fits w, length-entry name);
       }
 
@@ -43,7 +43,7 @@ module _ (b : List ℕ) (a : Areas) (names : List (List ℕ)) (p : PlainNames na
 pub record Stood (b : List ℕ) (a : Areas) (names : List (List ℕ)) (strings : List ℕ) (s : State) (es : List Event) : Type 0 where
   pub multiple : s .at % 4 ≡ 0
   pub ended : s .at + eventsSize es + 4 ≡ a .«structure_end»
-  pub held : Holds b (s .at) (structureBytes names es ++ finalBytes strings)
+  pub held : BytesAt b (s .at) (structureBytes names es ++ finalBytes strings)
 
 -- a walk from a state finds the entries of events, which tell them
 pub record Walked (b : List ℕ) (a : Areas) (names : List (List ℕ)) (s : State) (es : List Event) : Type 0 where
@@ -51,12 +51,12 @@ pub record Walked (b : List ℕ) (a : Areas) (names : List (List ℕ)) (s : Stat
   pub told : map (eventAt b) (entriesOf a names s es) ≡ es
 
 module _ {b : List ℕ} {a : Areas} {names : List (List ℕ)} {strings : List ℕ} {s : State} {e : Event} {es : List Event} (h : Stood b a names strings s (e ∷ es)) where
-  rest : Holds b (s .at) (eventBytes names e ++ (structureBytes names es ++ finalBytes strings))
+  rest : BytesAt b (s .at) (eventBytes names e ++ (structureBytes names es ++ finalBytes strings))
   unfolding structureBytes
-  rest = subst (Holds b (s .at)) (append-assoc (eventBytes names e) (structureBytes names es) (finalBytes strings)) (h .held)
+  rest = subst (BytesAt b (s .at)) (append-assoc (eventBytes names e) (structureBytes names es) (finalBytes strings)) (h .held)
 
-  first-held : Holds b (s .at) (eventBytes names e)
-  first-held = holds-left (eventBytes names e) (structureBytes names es ++ finalBytes strings) rest
+  first-held : BytesAt b (s .at) (eventBytes names e)
+  first-held = bytes-left (eventBytes names e) (structureBytes names es ++ finalBytes strings) rest
 
   first-fits : s .at + eventSize e ≤ a .«structure_end»
   unfolding eventsSize
@@ -67,7 +67,7 @@ module _ {b : List ℕ} {a : Areas} {names : List (List ℕ)} {strings : List �
   stood-on = record {
     multiple = omega (arith, h .multiple, size-multiple e);
     ended = omega (arith, h .ended);
-    held = holds-right (eventBytes names e) (structureBytes names es ++ finalBytes strings) rest (s .at + eventSize e) (ap (λ (k : ℕ). s .at + k) (event-size names e));
+    held = bytes-right (eventBytes names e) (structureBytes names es ++ finalBytes strings) rest (s .at + eventSize e) (ap (λ (k : ℕ). s .at + k) (event-size names e));
   }
 
   walked-on : Read b a names s e → Walked b a names (after s e) es → Walked b a names s (e ∷ es)
@@ -82,9 +82,9 @@ module _ {b : List ℕ} {a : Areas} {names : List (List ℕ)} {strings : List �
 -- Where a blob holds the strings of plain names, the walk over the events that use them finds each.
 module _ (b : List ℕ) (a : Areas) (names : List (List ℕ)) (strings : List ℕ) (small : length b < 2 ^ 32) (every : (name : List ℕ) → Has names name → Named b a names name) where
   pub walk-written :
-      (es : List Event) (depth : ℕ) (ended : Bool) (s : State) → Accepted depth ended es → s .depth ≡ depth → (ended ≡ false → 0 < depth → s .room ≡ true) →
+      (es : List Event) (depth : ℕ) (ended : Bool) (s : State) → Accepted depth ended es → s .depth ≡ depth → (ended ≡ false → 0 < depth → s .«takes_property» ≡ true) →
       AllPlain es → AllHas names es → Stood b a names strings s es → Walked b a names s es
-  unfolding Accepted AllPlain Plain AllHas eventBytes after depthAfter roomAfter structureBytes entriesOf eventsSize
+  unfolding Accepted AllPlain Plain AllHas eventBytes after depthAfter takesAfter structureBytes entriesOf eventsSize
   walk-written [] depth ended s c d r p f h = record {
     walked = walk-step b a s (omega (arith, h .ended)) ∙ ap (λ (x : Step). follow x (walk b a)) (final-read b a names s strings (h .held) (omega (arith, h .ended)) (d ∙ c));
     told = refl;
@@ -113,15 +113,15 @@ pub record Laid (b : List ℕ) (a : Areas) (es : List Event) : Type 0 where
   pub structure-ends : a .structure + eventsSize es + 4 ≡ a .«structure_end»
   pub strings-begin : a .strings ≡ a .«structure_end»
   pub strings-end : a .strings + length (joined (namesOf es)) ≡ a .«strings_end»
-  pub held : Holds b (a .structure) (structureBytes (namesOf es) es ++ finalBytes (joined (namesOf es)))
+  pub held : BytesAt b (a .structure) (structureBytes (namesOf es) es ++ finalBytes (joined (namesOf es)))
 
 module _ (b : List ℕ) (a : Areas) (es : List Event) (l : Laid b a es) where
-  strings-held : Holds b (a .strings) (joined (namesOf es))
+  strings-held : BytesAt b (a .strings) (joined (namesOf es))
   unfolding finalBytes
   strings-held =
       let names = namesOf es in
-      let final = holds-right (structureBytes names es) (finalBytes (joined names)) (l .held) (a .structure + eventsSize es) (ap (λ (n : ℕ). a .structure + n) (structure-size names es)) in
-      holds-right (bigEndian 4 finalToken) (joined names) final (a .strings) (omega (arith, length-bigEndian 4 finalToken, l .structure-ends, l .strings-begin))
+      let final = bytes-right (structureBytes names es) (finalBytes (joined names)) (l .held) (a .structure + eventsSize es) (ap (λ (n : ℕ). a .structure + n) (structure-size names es)) in
+      bytes-right (bigEndian 4 finalToken) (joined names) final (a .strings) (omega (arith, length-bigEndian 4 finalToken, l .structure-ends, l .strings-begin))
 
   module _ (c : Accepted 0 false es) (p : AllPlain es) where
     -- the walk finds the entries of the events

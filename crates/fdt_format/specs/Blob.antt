@@ -32,13 +32,13 @@ unfoldable pub namesOf : List Event → List (List ℕ)
 namesOf es = namesFrom [] es
 
 -- where a name stands; 0 where it does not
-unfoldable pub placeOf : Found → ℕ
-placeOf (At offset) = offset
-placeOf Nothing = 0
+unfoldable pub foundAt : Found → ℕ
+foundAt (At offset) = offset
+foundAt Nothing = 0
 
 -- the offset of a name in the strings of names
 unfoldable pub offsetOf : List (List ℕ) → List ℕ → ℕ
-offsetOf names name = placeOf (firstFrom 0 names name)
+offsetOf names name = foundAt (firstFrom 0 names name)
 
 -- the bytes of an event, with the names of the strings
 unfoldable pub eventBytes : List (List ℕ) → Event → List ℕ

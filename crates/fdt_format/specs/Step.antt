@@ -43,7 +43,7 @@ beginAt b a s =
     (pick (ltb (a .«structure_end») (roundUp 4 (end + 1))) (step.Bad disorder)
     (step.Entry
     (record { token = beginToken; place = s .at; name = s .at + 4; size = 0 })
-    (record { at = roundUp 4 (end + 1); depth = s .depth + 1; room = true })))
+    (record { at = roundUp 4 (end + 1); depth = s .depth + 1; «takes_property» = true })))
 
 -- word 3, value length, name offset, value, padding: all inside the structure; the offset meets a 0 inside the strings
 unfoldable pub propertyAt : List ℕ → Areas → State → Step
@@ -55,7 +55,7 @@ propertyAt b a s =
     (pick (leb (a .«strings_end») (zeroFrom b (a .«strings_end» - name) name)) (step.Bad nameless)
     (step.Entry
     (record { token = propertyToken; place = s .at; name = name; size = size })
-    (record { at = s .at + 12 + roundUp 4 size; depth = s .depth; room = true }))))
+    (record { at = s .at + 12 + roundUp 4 size; depth = s .depth; «takes_property» = true }))))
 
 -- word 2: a node is open
 unfoldable pub endAt : State → Step
@@ -63,7 +63,7 @@ endAt s =
     pick (eqb (s .depth) 0) (step.Bad disorder)
     (step.Entry
     (record { token = endToken; place = s .at; name = 0; size = 0 })
-    (record { at = s .at + 4; depth = s .depth - 1; room = false }))
+    (record { at = s .at + 4; depth = s .depth - 1; «takes_property» = false }))
 
 -- word 9: no node is open, and the structure ends here
 unfoldable pub finalAt : Areas → State → Step
@@ -78,6 +78,6 @@ stepAt b a s =
     pick (ltb (a .«structure_end» - s .at) 4) (step.Bad disorder)
     (pick (eqb (wordAt b (s .at)) beginToken) (beginAt b a s)
     (pick (eqb (wordAt b (s .at)) endToken) (endAt s)
-    (pick (eqb (wordAt b (s .at)) propertyToken) (pick (s .room) (propertyAt b a s) (step.Bad disorder))
+    (pick (eqb (wordAt b (s .at)) propertyToken) (pick (s .«takes_property») (propertyAt b a s) (step.Bad disorder))
     (pick (eqb (wordAt b (s .at)) finalToken) (finalAt a s)
     (step.Bad disorder)))))

@@ -36,4 +36,4 @@ walk b a s = steps (stepAt b a) (suc (a .«structure_end» - s .at)) s
 
 -- where a walk begins: no node is open, and no property may stand here
 unfoldable pub start : Areas → State
-start a = record { at = a .structure; depth = 0; room = false }
+start a = record { at = a .structure; depth = 0; «takes_property» = false }

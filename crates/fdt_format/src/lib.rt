@@ -26,7 +26,7 @@ pub struct Areas {
 pub struct State {
     pub at: usize,
     pub depth: usize,
-    pub room: bool,
+    pub takes_property: bool,
 }
 
 // A token that was read: its word, its place, the place of its name, and the size of its value.

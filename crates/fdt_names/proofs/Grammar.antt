@@ -1,4 +1,4 @@
--- Laws of `specs/Grammar.antt`: what `inTwo` means, what a loop over every byte tests, and a word taken apart at its first byte.
+-- Laws of `specs/Grammar.antt`: what `inTwo` means, what a loop over every byte tests, and a match taken apart at its first byte.
 use Prim.Native.Nat.{ℕ, suc, _+_, _<_}
 use native.Mathlib.Numerals.{add-one}
 use mathlib.Core.Path.{_≡_, refl, ap, _∙_}
@@ -8,7 +8,7 @@ use mathlib.Core.Logic.{_⊎_, inl, inr, _↔_}
 use lib.Dec.{leb, leb·zero, leb·suc-zero, leb·suc-suc, eqb·suc-zero}
 use lib.ListN.{length, drop, getD}
 use lib.Seq.{drop-cons}
-use Rattle.fdt_names.specs.Grammar.{Grammar, nothing, fromTo, _then_, _or_, all, inTwo, word}
+use Rattle.fdt_names.specs.Grammar.{Grammar, nothing, fromTo, _then_, _or_, all, inTwo, matches}
 
 -- s in two parts, of which the first passes p and the rest passes q
 pub record Cut (p q : List ℕ → Bool) (s : List ℕ) : Type 0 where
@@ -71,28 +71,28 @@ pub all-next :
 unfolding all
 all-next class s i h = rw (drop-cons s i 0 h, add-one)
 
--- bytes of a class and then a word of g
+-- bytes of a class and then g
 module _ (class : ℕ → Bool) (g : Grammar) where
-  pub none-then : (s : List ℕ) → word (fromTo 0 0 class then g) s ≡ word g s
-  unfolding word inTwo all
+  pub none-then : (s : List ℕ) → matches (fromTo 0 0 class then g) s ≡ matches g s
+  unfolding matches inTwo all
   none-then [] = refl
-  none-then (b ∷ s) = simp (leb·zero, leb·suc-zero) (ap (λ t. word g (b ∷ s) || t) (inTwo-none (word g) s) ∙ or-false _)
+  none-then (b ∷ s) = simp (leb·zero, leb·suc-zero) (ap (λ t. matches g (b ∷ s) || t) (inTwo-none (matches g) s) ∙ or-false _)
 
   first-then :
       (l m b : ℕ) (s : List ℕ) →
-      word (fromTo (suc l) (suc m) class then g) (b ∷ s) ≡ (class b && word (fromTo l m class then g) s)
-  unfolding word inTwo all
+      matches (fromTo (suc l) (suc m) class then g) (b ∷ s) ≡ (class b && matches (fromTo l m class then g) s)
+  unfolding matches inTwo all
   first-then l m b s =
-      simp (leb·suc-zero, leb·suc-suc, and-swap (class b)) (inTwo-and (class b) (word (fromTo l m class)) (word g) s)
+      simp (leb·suc-zero, leb·suc-suc, and-swap (class b)) (inTwo-and (class b) (matches (fromTo l m class)) (matches g) s)
 
   pub more-then :
       (m b : ℕ) (s : List ℕ) →
-      word (fromTo 0 (suc m) class then g) (b ∷ s) ≡ (word g (b ∷ s) || (class b && word (fromTo 0 m class then g) s))
-  unfolding word inTwo all
+      matches (fromTo 0 (suc m) class then g) (b ∷ s) ≡ (matches g (b ∷ s) || (class b && matches (fromTo 0 m class then g) s))
+  unfolding matches inTwo all
   more-then m b s =
       simp (leb·zero, leb·suc-suc, and-swap (class b))
-      (ap (λ t. word g (b ∷ s) || t) (inTwo-and (class b) (λ front. leb (length front) m && all class front) (word g) s))
+      (ap (λ t. matches g (b ∷ s) || t) (inTwo-and (class b) (λ front. leb (length front) m && all class front) (matches g) s))
 
-  pub one-then : (b : ℕ) (s : List ℕ) → word (nothing or fromTo 1 1 class then g) (b ∷ s) ≡ (class b && word g s)
-  unfolding word
+  pub one-then : (b : ℕ) (s : List ℕ) → matches (nothing or fromTo 1 1 class then g) (b ∷ s) ≡ (class b && matches g s)
+  unfolding matches
   one-then b s = simp eqb·suc-zero (first-then 0 0 b s ∙ ap (λ t. class b && t) (none-then s))

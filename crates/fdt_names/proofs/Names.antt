@@ -11,7 +11,7 @@ use lib.ListN.{length, getD, take, drop}
 use lib.Seq.{take-length}
 use borrow.Author.Tests.{eqb-true}
 use Rattle.bytes.specs.Bytes.{indexAfter, indexOf, slice}
-use Rattle.fdt_names.specs.Grammar.{Grammar, nothing, fromTo, any, _then_, _or_, all, inTwo, word}
+use Rattle.fdt_names.specs.Grammar.{Grammar, nothing, fromTo, any, _then_, _or_, all, inTwo, matches}
 use Rattle.fdt_names.specs.Names.{is, oneOf, letter, digit, nameByte, nodeByte, nodeName, unitAddress, hasZero}
 use Rattle.fdt_names.proofs.Grammar.{and-swap, none-then, more-then, one-then}
 
@@ -50,33 +50,33 @@ rest m = fromTo 0 m nodeByte then (nothing or unitAddress)
 unfoldable parts : ℕ → ℕ → List ℕ → Bool
 parts m k s = leb k m && (all nodeByte (take k s) && all nodeByte (drop (suc k) s))
 
-address : (b : ℕ) (s : List ℕ) → word (nothing or unitAddress) (b ∷ s) ≡ (is 64 b && all nodeByte s)
-unfolding unitAddress word
+address : (b : ℕ) (s : List ℕ) → matches (nothing or unitAddress) (b ∷ s) ≡ (is 64 b && all nodeByte s)
+unfolding unitAddress matches
 address b s = one-then (is 64) (any nodeByte) b s
 
-rest-full : (b : ℕ) (s : List ℕ) → word (rest 0) (b ∷ s) ≡ (is 64 b && all nodeByte s)
+rest-full : (b : ℕ) (s : List ℕ) → matches (rest 0) (b ∷ s) ≡ (is 64 b && all nodeByte s)
 unfolding rest
 rest-full b s = none-then nodeByte (nothing or unitAddress) (b ∷ s) ∙ address b s
 
-rest-room : (m b : ℕ) (s : List ℕ) → word (rest (suc m)) (b ∷ s) ≡ (is 64 b && all nodeByte s || nodeByte b && word (rest m) s)
+rest-room : (m b : ℕ) (s : List ℕ) → matches (rest (suc m)) (b ∷ s) ≡ (is 64 b && all nodeByte s || nodeByte b && matches (rest m) s)
 unfolding rest
 rest-room m b s = more-then nodeByte (nothing or unitAddress) m b s ∙ rw address
 
-rest-at : (m : ℕ) (s : List ℕ) → word (rest m) (64 ∷ s) ≡ parts m 0 (64 ∷ s)
+rest-at : (m : ℕ) (s : List ℕ) → matches (rest m) (64 ∷ s) ≡ parts m 0 (64 ∷ s)
 unfolding parts all is nodeByte nameByte letter digit oneOf
 rest-at zero s = rest-full 64 s
 rest-at (suc m) s = rest-room m 64 s ∙ simp (or-false, leb·zero)
 
-module _ (b : ℕ) (s : List ℕ) (by-parts : (m : ℕ) → word (rest m) s ≡ parts m (indexOf 64 s) s) where
-  at-first : (t : Bool) → eqb b 64 ≡ t → (m : ℕ) → word (rest m) (b ∷ s) ≡ parts m (indexAfter t (indexOf 64 s)) (b ∷ s)
+module _ (b : ℕ) (s : List ℕ) (by-parts : (m : ℕ) → matches (rest m) s ≡ parts m (indexOf 64 s) s) where
+  at-first : (t : Bool) → eqb b 64 ≡ t → (m : ℕ) → matches (rest m) (b ∷ s) ≡ parts m (indexAfter t (indexOf 64 s)) (b ∷ s)
   unfolding indexAfter parts all is
   at-first true e m = rw (eqb-true b 64 e) (rest-at m s)
   at-first false e zero = rest-full b s ∙ simp (e, leb·suc-zero)
   at-first false e (suc m) =
       rest-room m b s ∙ simp (e, by-parts m, leb·suc-suc, and-assoc, and-swap (leb (indexOf 64 s) m))
 
-rest-parts : (s : List ℕ) (m : ℕ) → word (rest m) s ≡ parts m (indexOf 64 s) s
-unfolding indexOf parts rest word inTwo all
+rest-parts : (s : List ℕ) (m : ℕ) → matches (rest m) s ≡ parts m (indexOf 64 s) s
+unfolding indexOf parts rest matches inTwo all
 rest-parts [] m = simp leb·zero
 rest-parts (b ∷ s) m = at-first b s (rest-parts s) (eqb b 64) refl m
 
@@ -85,7 +85,7 @@ pub name-parts :
     (s : List ℕ) {at : ℕ} →
     0 < length s →
     at ≡ 1 + indexOf 64 (slice 1 (length s) s) →
-    word nodeName s ≡ (letter (getD s 0 0) && (leb at 31 && (all nodeByte (take (at - 1) (drop 1 s)) && all nodeByte (drop (at + 1) s))))
+    matches nodeName s ≡ (letter (getD s 0 0) && (leb at 31 && (all nodeByte (take (at - 1) (drop 1 s)) && all nodeByte (drop (at + 1) s))))
 unfolding nodeName rest parts
 name-parts [] h e = absurd (omega arith)
 name-parts (b ∷ s) {at} h e =

@@ -1,4 +1,4 @@
--- A small language of grammars over bytes, and when bytes are a word of a grammar.
+-- A small language of grammars over bytes, and when bytes match a grammar.
 use Prim.Native.Nat.{ℕ}
 use mathlib.Core.Bool.{Bool, true, _&&_, _||_}
 use mathlib.Core.List.{List, [], _∷_}
@@ -15,9 +15,9 @@ pub data Grammar : Type 0 where
   fromTo : ℕ → ℕ → (ℕ → Bool) → Grammar
   -- any number of bytes of a class
   any : (ℕ → Bool) → Grammar
-  -- a word of the one and then a word of the other
+  -- the one and then the other
   _then_ : Grammar → Grammar → Grammar
-  -- a word of the one or a word of the other
+  -- the one or the other
   _or_ : Grammar → Grammar → Grammar
 
 -- every byte is of the class
@@ -30,10 +30,10 @@ unfoldable pub inTwo : (List ℕ → Bool) → (List ℕ → Bool) → List ℕ 
 inTwo p q [] = p [] && q []
 inTwo p q (b ∷ s) = (p [] && q (b ∷ s)) || inTwo (λ front. p (b ∷ front)) q s
 
--- the bytes are a word of the grammar
-unfoldable pub word : Grammar → List ℕ → Bool
-word nothing s = eqb (length s) 0
-word (fromTo least most class) s = leb least (length s) && (leb (length s) most && all class s)
-word (any class) s = all class s
-word (g then h) s = inTwo (word g) (word h) s
-word (g or h) s = word g s || word h s
+-- the bytes match the grammar
+unfoldable pub matches : Grammar → List ℕ → Bool
+matches nothing s = eqb (length s) 0
+matches (fromTo least most class) s = leb least (length s) && (leb (length s) most && all class s)
+matches (any class) s = all class s
+matches (g then h) s = inTwo (matches g) (matches h) s
+matches (g or h) s = matches g s || matches h s

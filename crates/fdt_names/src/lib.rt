@@ -2,7 +2,7 @@
 ghost use mathlib.Core.Path.{_≡_};
 ghost use mathlib.Core.Bool.{_&&_, _||_};
 ghost use lib.Dec.{leb};
-ghost use Rattle.fdt_names.specs.Grammar.{all, word};
+ghost use Rattle.fdt_names.specs.Grammar.{all, matches};
 ghost use Rattle.fdt_names.specs.Names.{letter, oneOf, nameByte, nodeName, propertyName, hasZero};
 
 // The longest node name, without its unit address.
@@ -61,7 +61,7 @@ fn all_valid_chars(s: &[u8], marks: &[u8]) -> bool
 
 // Whether the bytes are a name of a node.
 pub fn node_name_valid(name: &[u8]) -> bool
-    ensures { λ r. ⌜ r ≡ word nodeName (now (name .entry)) ⌝ }
+    ensures { λ r. ⌜ r ≡ matches nodeName (now (name .entry)) ⌝ }
 {
     let n = name.len();
     if n == 0 {
@@ -84,7 +84,7 @@ pub fn node_name_valid(name: &[u8]) -> bool
 
 // Whether the bytes are a name of a property.
 pub fn property_name_valid(name: &[u8]) -> bool
-    ensures { λ r. ⌜ r ≡ word propertyName (now (name .entry)) ⌝ }
+    ensures { λ r. ⌜ r ≡ matches propertyName (now (name .entry)) ⌝ }
 {
     if name.len() == 0 || PROPERTY_NAME_MAX_LEN < name.len() {
         return false;

@@ -6,7 +6,7 @@ use Prim.Native.Nat.{ℕ, _+_}
 use lib.Dec.{leb}
 use lib.ListN.{length}
 use Rattle.fdt_bytes.specs.Splice.{splice}
-use Rattle.fdt_names.specs.Grammar.{word}
+use Rattle.fdt_names.specs.Grammar.{matches}
 use Rattle.fdt_names.specs.Names.{nodeName, hasZero}
 use Rattle.fdt_format.specs.Tokens.{beginBytes}
 use Rattle.fdt_record.specs.declared.Answer.{Answer}
@@ -26,7 +26,7 @@ beginRows w lent name =
     blobRows w lent
     ++ (leb mostDepth (w .«node_depth») ⇒ NodeDepthTooLarge)
     ∷ (hasZero name ⇒ InvalidString)
-    ∷ (not (word nodeName name) ⇒ InvalidNodeName)
+    ∷ (not (matches nodeName name) ⇒ InvalidNodeName)
     ∷ (noRoom w (length (beginBytes name)) ⇒ BlobRoom)
     ∷ []
 

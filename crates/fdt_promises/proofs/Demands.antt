@@ -17,7 +17,7 @@ use Rattle.fdt_format.proofs.Strings.{Distinct, names-once}
 use Rattle.fdt_record.specs.Answers.{accepts}
 use Rattle.fdt_opening.specs.Opening.{count}
 use Rattle.fdt_promises.specs.Calls.{Call, asks, to-have, Desk, answer, after, unaltered}
-use Rattle.fdt_promises.specs.Run.{recorded, tells, eventsOf, bootOf, Holds, Run, allAsk, opened-desk, desk, history, description, Finishes, blob}
+use Rattle.fdt_promises.specs.Run.{phandlesOf, tells, eventsOf, bootOf, Holds, Run, allAsk, opened-desk, desk, history, description, Finishes, blob}
 use Rattle.fdt_promises.specs.Foreign.{AllRead, foreign}
 use Rattle.fdt_promises.specs.Starred.{allHold, starred}
 use Rattle.fdt_promises.proofs.Desks.{refused-after}
@@ -31,7 +31,7 @@ pub demand-1 : (c : Call) (s : Desk) → accepts (answer (asks c) s) ≡ false �
 demand-1 c s = refused-after s (asks c)
 
 -- After every call of a run: what the used parts of the buffers and every figure of the record are, counted from the history.
-pub after-every-call : (r : Run) → desk r .writer .finished ≡ false → Holds (r .numbers) (eventsOf (history r)) (bootOf (history r)) (recorded (allAsk (r .calls)) (opened-desk r)) (desk r)
+pub after-every-call : (r : Run) → desk r .writer .finished ≡ false → Holds (r .numbers) (eventsOf (history r)) (bootOf (history r)) (phandlesOf (allAsk (r .calls)) (opened-desk r)) (desk r)
 after-every-call = run-holds
 
 -- The names in the strings are there once each.

@@ -22,7 +22,7 @@ use Rattle.fdt_opening.specs.Opening.{count}
 use Rattle.fdt_opening.proofs.Opening.{OpeningFits, opened-fits}
 use Rattle.fdt_finish.proofs.Finishing.{finish-fits}
 use Rattle.fdt_promises.specs.Calls.{Request, to-open, to-have, to-finish, Desk, answer, after}
-use Rattle.fdt_promises.specs.Run.{recorded, tells, eventsOf, bootOf, Holds, reservationsOf, withNodes, describe, Run, allAsk, opened-desk, desk, history, description, Finishes, blob}
+use Rattle.fdt_promises.specs.Run.{phandlesOf, tells, eventsOf, bootOf, Holds, reservationsOf, withNodes, describe, Run, allAsk, opened-desk, desk, history, description, Finishes, blob}
 use Rattle.fdt_promises.proofs.Ended.{count-paired, shown-bytes, nodes-told, well-formed}
 use Rattle.fdt_promises.proofs.Held.{Open}
 use Rattle.fdt_promises.proofs.Runs.{opened-open, runs-open, boot-small}
@@ -36,11 +36,11 @@ record Told (r : Run) : Type 0 where
 
 module _ (r : Run) where
   -- a run that is not finished is open
-  run-open : desk r .writer .finished ≡ false → Open (r .numbers) (eventsOf (history r)) (bootOf (history r)) (recorded (allAsk (r .calls)) (opened-desk r)) (desk r)
+  run-open : desk r .writer .finished ≡ false → Open (r .numbers) (eventsOf (history r)) (bootOf (history r)) (phandlesOf (allAsk (r .calls)) (opened-desk r)) (desk r)
   unfolding desk history opened-desk bootOf
   run-open u = runs-open (allAsk (r .calls)) (r .between) (opened-open (r .before) (r .numbers) (r .opened)) u
 
-  pub run-holds : desk r .writer .finished ≡ false → Holds (r .numbers) (eventsOf (history r)) (bootOf (history r)) (recorded (allAsk (r .calls)) (opened-desk r)) (desk r)
+  pub run-holds : desk r .writer .finished ≡ false → Holds (r .numbers) (eventsOf (history r)) (bootOf (history r)) (phandlesOf (allAsk (r .calls)) (opened-desk r)) (desk r)
   run-holds u = run-open u .holds
 
   -- the numbers of its opening are pairs, each in order
@@ -54,7 +54,7 @@ module _ (r : Run) where
 
   module _ (f : Finishes r) where
     -- at its end it is open
-    at-end : Open (r .numbers) (eventsOf (history r)) (bootOf (history r)) (recorded (allAsk (r .calls)) (opened-desk r)) (desk r)
+    at-end : Open (r .numbers) (eventsOf (history r)) (bootOf (history r)) (phandlesOf (allAsk (r .calls)) (opened-desk r)) (desk r)
     unfolding Finishes answer
     at-end = run-open (finish-fits (desk r .writer) (length (desk r .blob)) (desk r .strings) f .unmarked)
 

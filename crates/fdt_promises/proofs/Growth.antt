@@ -21,8 +21,8 @@ use Rattle.fdt_strings.specs.Interned.{interned}
 use Rattle.fdt_strings.proofs.Entries.{Plain as PlainNames, entries-joined, joined-append, first-after, eq-same}
 use Rattle.fdt_strings.proofs.Places.{known-found, new-placed}
 use Rattle.fdt_format.specs.Events.{Event}
-use Rattle.fdt_format.specs.Blob.{orAtEnd, withName, placeOf, offsetOf, eventSize, eventsSize, Plain, AllPlain}
-use Rattle.fdt_properties.specs.Property.{isFull, added, stored, offsetOf as offsetAt}
+use Rattle.fdt_format.specs.Blob.{orAtEnd, withName, foundAt, offsetOf, eventSize, eventsSize, Plain, AllPlain}
+use Rattle.fdt_properties.specs.Property.{isFull, added, stored, placeOffset}
 use Rattle.fdt_promises.specs.Run.{deepens, closes, depthOf, endedOf}
 
 -- ---- bytes after the used part
@@ -53,7 +53,7 @@ no-zero (b ∷ s) h = go (eqb b 0) refl (λ t. no-zero s t) h
 
 -- the strings of names, with a name at its place
 pub record Named (used : ℕ) (strings name : List ℕ) (names : List (List ℕ)) (p : Interned) : Type 0 where
-  pub offset : offsetAt p ≡ offsetOf (withName names name) name
+  pub offset : placeOffset p ≡ offsetOf (withName names name) name
   pub bytes : take (used + added p name) (stored p name strings) ≡ joined (withName names name)
   pub figure : used + added p name ≡ length (joined (withName names name))
   pub length-kept : length (stored p name strings) ≡ length strings
@@ -65,14 +65,14 @@ module _ (used room : ℕ) (strings name : List ℕ) (names : List (List ℕ)) (
   among f e = ap (λ (l : List (List ℕ)). firstFrom 0 l name) (sym (entries-joined plain) ∙ ap entries (sym are)) ∙ e
 
   pub named : isFull (interned (take used strings) room name) ≡ false → Named used strings name names (interned (take used strings) room name)
-  unfolding isFull offsetAt offsetOf placeOf withName orAtEnd added stored firstFrom joined
+  unfolding isFull placeOffset offsetOf foundAt withName orAtEnd added stored firstFrom joined
   named h = go (interned (take used strings) room name) refl h
     where
       known : (i : ℕ) → firstFrom 0 names name ≡ At i → Named used strings name names (place.Known i)
       known i f =
           let w : withName names name ≡ names = simp f in
           record {
-            offset = sym (ap (λ (l : List (List ℕ)). placeOf (firstFrom 0 l name)) w ∙ ap placeOf f);
+            offset = sym (ap (λ (l : List (List ℕ)). foundAt (firstFrom 0 l name)) w ∙ ap foundAt f);
             bytes = ap (λ (n : ℕ). take n strings) (let z : used + 0 ≡ used = omega arith in z) ∙ are ∙ ap joined (sym w);
             figure = let z : used + 0 ≡ used = omega arith in z ∙ count ∙ ap (λ (l : List (List ℕ)). length (joined l)) (sym w);
             length-kept = refl;
@@ -88,7 +88,7 @@ module _ (used room : ℕ) (strings name : List ℕ) (names : List (List ℕ)) (
           first-after name 0 names (name ∷ []) f ∙ simp (eq-same name name refl)
           in
           record {
-            offset = e ∙ count ∙ sym (ap (λ (l : List (List ℕ)). placeOf (firstFrom 0 l name)) w ∙ ap placeOf o ∙ omega arith);
+            offset = e ∙ count ∙ sym (ap (λ (l : List (List ℕ)). foundAt (firstFrom 0 l name)) w ∙ ap foundAt o ∙ omega arith);
             bytes =
                 ap (λ (k : ℕ). take (used + length (entry name)) (splice k (entry name) strings)) e
                 ∙ take-spliced used (entry name) strings fits

@@ -34,7 +34,7 @@ use Rattle.fdt_nodes.specs.Begin.{begunRecord}
 use Rattle.fdt_nodes.specs.End.{endedRecord}
 use Rattle.fdt_nodes.proofs.Begin.{begin-fits}
 use Rattle.fdt_nodes.proofs.End.{end-fits}
-use Rattle.fdt_properties.specs.Property.{placeOf, written, stored, added, propertyRecord, offsetOf as offsetAt}
+use Rattle.fdt_properties.specs.Property.{placeOf, written, stored, added, propertyRecord, placeOffset}
 use Rattle.fdt_properties.proofs.Property.{property-fits}
 use Rattle.fdt_phandles.specs.Phandle.{phandleName, phandleValue, recordAnswer, recorded}
 use Rattle.fdt_phandles.proofs.Phandles.{record-fits}
@@ -142,7 +142,7 @@ module _ {numbers : List ℕ} {es : List Event} {boot : ℕ} {marks : List ℕ} 
       let h = o .holds in
       let event = has (name ≔ valueBytes v) in
       let p = placeOf (s .writer) (s .strings) name in
-      let bs = propertyBytes (offsetAt p) (valueBytes v) in
+      let bs = propertyBytes (placeOffset p) (valueBytes v) in
       let plain = names-plain es (o .plain) no-entry in
       let g : Named (s .writer .«strings_used») (s .strings) name (namesOf es) p =
       named (s .writer .«strings_used») (s .writer .«strings_room») (s .strings) name (namesOf es) plain (h .names) (h .names-used) (f .names .within) (f .placed) in

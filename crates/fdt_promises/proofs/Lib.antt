@@ -1,3 +1,4 @@
+pub mod Agrees
 pub mod Composed
 pub mod Demands
 pub mod Described
@@ -12,5 +13,4 @@ pub mod OwnBytes
 pub mod PastUsable
 pub mod Runs
 pub mod Starred
-pub mod Steps
 pub mod Usable

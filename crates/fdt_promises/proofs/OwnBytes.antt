@@ -24,7 +24,7 @@ use Rattle.fdt_record.specs.declared.Record.{Record}
 use Rattle.fdt_record.specs.Limits.{blobCeiling, stringsCeiling, usable}
 use Rattle.fdt_record.proofs.Answers.{upon-done}
 use Rattle.fdt_record.proofs.Fits.{FitStrings}
-use Rattle.fdt_properties.specs.Property.{placeOf, isFull, offsetOf, added, stored, written, propertyAnswer, property, propertyBlob, propertyStrings, PropertyOutcome}
+use Rattle.fdt_properties.specs.Property.{placeOf, isFull, placeOffset, added, stored, written, propertyAnswer, property, propertyBlob, propertyStrings, PropertyOutcome}
 use Rattle.fdt_properties.proofs.Places.{settled}
 use Rattle.fdt_properties.proofs.Property.{property-fits}
 use Rattle.fdt_finish.specs.Finish.{usedStrings, finishAnswer, finish, finishedBlob, finishBlob, FinishOutcome}
@@ -106,7 +106,7 @@ unfolding property propertyBlob propertyStrings written
 own-property {w} {blob} {strings} {name} {v} p e =
     let told : propertyAnswer w (length blob) strings name v ≡ Done = ap (λ (o : Outcome). o .answer) (sym (p .result)) ∙ e in
     let f = property-fits w (length blob) strings name v told in
-    let n = length-property (offsetOf (placeOf w strings name)) (valueBytes v) in
+    let n = length-property (placeOffset (placeOf w strings name)) (valueBytes v) in
     let room : w .«blob_used» + length (written w strings name v) ≤ w .«blob_room» = omega (arith, f .room, n) in
     let g = settled w strings name (f .names) (f .placed) in (
       subst (KeptOutside (w .«blob_used») (w .«blob_used» + length (written w strings name v)) blob) (sym (p .bytes ∙ upon-done _ _ _ told))

@@ -28,9 +28,9 @@ use Rattle.fdt_record.proofs.Answers.{accepts-done, upon-same}
 use Rattle.fdt_record.proofs.FirstTests.{strings-refusals}
 use Rattle.fdt_record.proofs.Fits.{fit-blob, FitStrings, fit-strings, fit-phandles}
 use Rattle.fdt_record.proofs.Rows.{NoneHolds, Refusals, exactly, refusals-more, append-same}
-use Rattle.fdt_properties.specs.Property.{placeOf, offsetOf, stored, written, stateRows, nameRows, propertyRows, propertyAnswer, propertyRecord, property, propertyBlob, propertyStrings}
+use Rattle.fdt_properties.specs.Property.{placeOf, placeOffset, stored, written, stateRows, nameRows, propertyRows, propertyAnswer, propertyRecord, property, propertyBlob, propertyStrings}
 use Rattle.fdt_properties.proofs.Property.{state-refusals, PropertyFits, property-fits}
-use Rattle.fdt_properties.proofs.Steps.{state-fits}
+use Rattle.fdt_properties.proofs.Agrees.{state-fits}
 use Rattle.fdt_header.specs.Header.{headerSize, headerBytes}
 use Rattle.fdt_format.specs.Tokens.{beginBytes, propertyBytes, endBytes, finalBytes}
 use Rattle.fdt_header.proofs.HeaderBytes.{length-header}
@@ -178,9 +178,9 @@ module _ (xs ys : List ℕ) (same : SameUsable blobCeiling xs ys) where
         same-upon blobCeiling same-property xs ys _ _ same
             (λ e.
             let f = fits e in
-            let n = length-property (offsetOf (placeOf w ss name)) (valueBytes v) in
-            subst (λ (p : Interned). SameUsable blobCeiling (splice (w .«blob_used») (propertyBytes (offsetOf (placeOf w ss name)) (valueBytes v)) xs) (splice (w .«blob_used») (propertyBytes (offsetOf p) (valueBytes v)) ys)) (same-place (f .names))
-            (same-splice blobCeiling (w .«blob_used») (propertyBytes (offsetOf (placeOf w ss name)) (valueBytes v)) xs ys same (omega (arith, n, f .blob .room, f .room)))),
+            let n = length-property (placeOffset (placeOf w ss name)) (valueBytes v) in
+            subst (λ (p : Interned). SameUsable blobCeiling (splice (w .«blob_used») (propertyBytes (placeOffset (placeOf w ss name)) (valueBytes v)) xs) (splice (w .«blob_used») (propertyBytes (placeOffset p) (valueBytes v)) ys)) (same-place (f .names))
+            (same-splice blobCeiling (w .«blob_used») (propertyBytes (placeOffset (placeOf w ss name)) (valueBytes v)) xs ys same (omega (arith, n, f .blob .room, f .room)))),
         same-upon stringsCeiling same-property ss ts _ _ alike
             (λ e.
             let f = fits e in

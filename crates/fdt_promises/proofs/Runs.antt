@@ -31,7 +31,7 @@ use Rattle.fdt_phandles.specs.Phandle.{recordRows, recordAnswer}
 use Rattle.fdt_finish.specs.Boot.{bootAnswer}
 use Rattle.fdt_finish.specs.Finish.{finishRows, finishAnswer}
 use Rattle.fdt_promises.specs.Calls.{Request, to-open, to-boot, to-begin, to-end, to-have, to-mark, to-finish, to-show, Desk, answer, after, marked, unaltered}
-use Rattle.fdt_promises.specs.Run.{runs, accepted, recordedBy, recorded, tells, eventsOf, boots, bootOf, Holds, depthOf, endedOf, InRun, AllInRun}
+use Rattle.fdt_promises.specs.Run.{runs, accepted, recordedBy, phandlesOf, tells, eventsOf, boots, bootOf, Holds, depthOf, endedOf, InRun, AllInRun}
 use Rattle.fdt_promises.proofs.Desks.{opened-after, refused-after, refused-mark}
 use Rattle.fdt_promises.proofs.Growth.{take-spliced}
 use Rattle.fdt_promises.proofs.Held.{Open, accepted-open, refused-open}
@@ -102,8 +102,8 @@ open-before cs i s u = go (s .writer .finished) refl
 -- ---- all calls
 
 module _ {numbers : List ℕ} where
-  pub runs-open : (cs : List Request) → AllInRun cs → {es : List Event} {boot : ℕ} {marks : List ℕ} {s : Desk} → Open numbers es boot marks s → runs cs s .writer .finished ≡ false → Open numbers (es ++ eventsOf (accepted cs s)) (foldl boots boot (accepted cs s)) (marks ++ recorded cs s) (runs cs s)
-  unfolding runs accepted recorded eventsOf AllInRun
+  pub runs-open : (cs : List Request) → AllInRun cs → {es : List Event} {boot : ℕ} {marks : List ℕ} {s : Desk} → Open numbers es boot marks s → runs cs s .writer .finished ≡ false → Open numbers (es ++ eventsOf (accepted cs s)) (foldl boots boot (accepted cs s)) (marks ++ phandlesOf cs s) (runs cs s)
+  unfolding runs accepted phandlesOf eventsOf AllInRun
   runs-open [] i {es} {boot} {marks} {s} o u =
       subst (λ (l : List Event). Open numbers l boot (marks ++ []) s) (sym (append-nil es))
       (subst (λ (l : List ℕ). Open numbers es boot l s) (sym (append-nil marks)) o)
@@ -113,7 +113,7 @@ module _ {numbers : List ℕ} where
       later = accepted cs (after c s)
 
       marked-later : List ℕ
-      marked-later = recorded cs (after c s)
+      marked-later = phandlesOf cs (after c s)
 
       go :
           (b : Bool) → accepts (answer c s) ≡ b →

@@ -4,11 +4,11 @@ use mathlib.Core.Bool.{true}
 use Rattle.fdt_bytes.specs.BigEndian.{bigEndian, cellBytes}
 use Rattle.fdt_bytes.specs.Padding.{padding, roundUp, zeros, padded}
 use Rattle.fdt_bytes.specs.Splice.{over, splice}
-use Rattle.fdt_names.specs.Grammar.{all, inTwo, word}
+use Rattle.fdt_names.specs.Grammar.{all, inTwo, matches}
 use Rattle.fdt_names.specs.Names.{is, oneOf, letter, digit, nameByte, nodeByte, propertyByte, unitAddress, nodeName, propertyName, hasZero}
 use Rattle.fdt_reserve.specs.Entry.{invalid}
 use Rattle.fdt_reserve.specs.Overlap.{start, size, some, share, overlapping}
-use Rattle.fdt_strings.specs.Entries.{entry, inFront, entries, same, firstFrom, findString}
+use Rattle.fdt_strings.specs.Entries.{entry, withByte, entries, same, firstFrom, findString}
 use Rattle.fdt_strings.specs.Interned.{place, orElse, interned}
 use Rattle.fdt_format.specs.Tokens.{beginBytes, propertyBytes, finalBytes}
 use Rattle.fdt_header.specs.Header.{reservationBytes, headerWords, headerBytes}
@@ -23,8 +23,8 @@ use Rattle.fdt_nodes.specs.Begin.{beginRows, beginAnswer, begunRecord, begin}
 use Rattle.fdt_properties.specs.Property.{placeOf, isFull, stateRows, nameRows, propertyRows, propertyAnswer, property}
 use Rattle.fdt_finish.specs.Finish.{usedStrings, finishRows, finishAnswer, finishedRecord, finishedBlob, finish, finishBlob}
 use Rattle.fdt_finish.specs.Shown.{showable, shown}
-use Rattle.fdt_promises.specs.Starred.{holds, allHold, fresh, beginAt, propertyIn, openWith, dirty, openedOver, openedBlob, emptyRun, emptyBlob, long, last, starred}
+use Rattle.fdt_promises.specs.Starred.{holds, allHold, fresh, beginGives, propertyIn, openWith, dirty, openedOver, openedBlob, emptyRun, emptyBlob, long, last, starred}
 
 pub starred-hold : allHold starred ≡ true
-unfolding bigEndian cellBytes padding roundUp zeros padded over splice all inTwo word is oneOf letter digit nameByte nodeByte propertyByte unitAddress nodeName propertyName hasZero invalid start size some share overlapping entry inFront entries same firstFrom findString place orElse interned beginBytes propertyBytes finalBytes reservationBytes headerWords headerBytes valueBytes misfitValue zeroValue accepts usable misfitRecord misfitRoom misfitBlob misfitStrings noRoom first aloneRows blobRows stringsRows someInvalid openingRows openingAnswer openedRecord closedRecord openingBytes opening openingBlob beginRows beginAnswer begunRecord begin placeOf isFull stateRows nameRows propertyRows propertyAnswer property usedStrings finishRows finishAnswer finishedRecord finishedBlob finish finishBlob showable shown holds allHold fresh beginAt propertyIn openWith dirty openedOver openedBlob emptyRun emptyBlob long last starred
+unfolding bigEndian cellBytes padding roundUp zeros padded over splice all inTwo matches is oneOf letter digit nameByte nodeByte propertyByte unitAddress nodeName propertyName hasZero invalid start size some share overlapping entry withByte entries same firstFrom findString place orElse interned beginBytes propertyBytes finalBytes reservationBytes headerWords headerBytes valueBytes misfitValue zeroValue accepts usable misfitRecord misfitRoom misfitBlob misfitStrings noRoom first aloneRows blobRows stringsRows someInvalid openingRows openingAnswer openedRecord closedRecord openingBytes opening openingBlob beginRows beginAnswer begunRecord begin placeOf isFull stateRows nameRows propertyRows propertyAnswer property usedStrings finishRows finishAnswer finishedRecord finishedBlob finish finishBlob showable shown holds allHold fresh beginGives propertyIn openWith dirty openedOver openedBlob emptyRun emptyBlob long last starred
 starred-hold = refl

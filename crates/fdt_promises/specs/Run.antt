@@ -46,9 +46,9 @@ recordedBy to-finish s = []
 recordedBy to-show s = []
 
 -- the values that calls record
-unfoldable pub recorded : List Request → Desk → List ℕ
-recorded [] s = []
-recorded (c ∷ cs) s = recordedBy c s ++ recorded cs (after c s)
+unfoldable pub phandlesOf : List Request → Desk → List ℕ
+phandlesOf [] s = []
+phandlesOf (c ∷ cs) s = recordedBy c s ++ phandlesOf cs (after c s)
 
 -- ---- what accepted calls describe
 

@@ -40,8 +40,8 @@ unfoldable pub fresh : Record
 fresh = openedRecord 256 64 4 []
 
 -- what begin answers for a name, at a depth
-unfoldable pub beginAt : ℕ → List ℕ → ℕ
-beginAt depth name = numberOf (begin (withDepth depth fresh) (dirty 256) name .answer)
+unfoldable pub beginGives : ℕ → List ℕ → ℕ
+beginGives depth name = numberOf (begin (withDepth depth fresh) (dirty 256) name .answer)
 
 -- what property answers for a name, in a node with an empty name
 unfoldable pub propertyIn : List ℕ → ℕ
@@ -79,14 +79,14 @@ last = 2 ^ 64 - 1
 unfoldable pub starred : List Case
 starred =
     -- base name of 31 bytes taken, 32 refused 10; a@ taken; @1 and 1a refused 10
-    answers (beginAt 0 (long 30)) 0
-    ∷ answers (beginAt 0 (long 31)) 10
-    ∷ answers (beginAt 0 (97 ∷ 64 ∷ [])) 0
-    ∷ answers (beginAt 0 (64 ∷ 49 ∷ [])) 10
-    ∷ answers (beginAt 0 (49 ∷ 97 ∷ [])) 10
+    answers (beginGives 0 (long 30)) 0
+    ∷ answers (beginGives 0 (long 31)) 10
+    ∷ answers (beginGives 0 (97 ∷ 64 ∷ [])) 0
+    ∷ answers (beginGives 0 (64 ∷ 49 ∷ [])) 10
+    ∷ answers (beginGives 0 (49 ∷ 97 ∷ [])) 10
     -- node name a with a byte 0: 5; at depth 64 the same: 12
-    ∷ answers (beginAt 0 (97 ∷ 0 ∷ [])) 5
-    ∷ answers (beginAt 64 (97 ∷ 0 ∷ [])) 12
+    ∷ answers (beginGives 0 (97 ∷ 0 ∷ [])) 5
+    ∷ answers (beginGives 64 (97 ∷ 0 ∷ [])) 12
     -- property name ? taken; a@ refused 11
     ∷ answers (propertyIn (63 ∷ [])) 0
     ∷ answers (propertyIn (97 ∷ 64 ∷ [])) 11

@@ -14,7 +14,7 @@ use Rattle.fdt_record.specs.declared.Record.{Record}
 use Rattle.fdt_record.specs.Answers.{accepts}
 use Rattle.fdt_record.specs.Fields.{withUsedBlob, withUsedStrings}
 use Rattle.fdt_record.proofs.Answers.{accepts-done}
-use Rattle.fdt_properties.specs.Property.{placeOf, offsetOf, added, written, propertyRecord}
+use Rattle.fdt_properties.specs.Property.{placeOf, placeOffset, added, written, propertyRecord}
 use Rattle.fdt_properties.specs.Tested.{PropertyTested, PlaceFits, PutFits}
 use Rattle.fdt_properties.proofs.Places.{Settled, settled}
 use Rattle.fdt_properties.proofs.Property.{property-fits}
@@ -24,10 +24,10 @@ module _ (w : Record) (lent : ℕ) (strings name : List ℕ) (v : Value) (place 
     pub blob : w .«blob_used» + (12 + roundUp 4 len) < 2 ^ 64
     pub names : w .«strings_used» + added place name < 2 ^ 64
     pub fits : PlaceFits place name strings
-    pub put : PutFits (w .«blob_used») (offsetOf place) len lent v
+    pub put : PutFits (w .«blob_used») (placeOffset place) len lent v
     pub placed : place ≡ placeOf w strings name
     pub figures : withUsedStrings (w .«strings_used» + added place name) (withUsedBlob (w .«blob_used» + (12 + roundUp 4 len)) w) ≡ propertyRecord w strings name v
-    pub bytes : propertyBytes (offsetOf place) (valueBytes v) ≡ written w strings name v
+    pub bytes : propertyBytes (placeOffset place) (valueBytes v) ≡ written w strings name v
 
   pub accepted-property : {a : Answer} → PropertyTested w lent strings name v a place len → accepts a ≡ true → AcceptedProperty
   unfolding propertyRecord written roundUp
@@ -55,8 +55,8 @@ module _ (w : Record) (lent : ℕ) (strings name : List ℕ) (v : Value) (place 
         figures =
             ap (λ (q : Interned). withUsedStrings (w .«strings_used» + added q name) (withUsedBlob (w .«blob_used» + (12 + roundUp 4 len)) w)) p
             ∙ ap (λ (n : ℕ). withUsedStrings (w .«strings_used» + added (placeOf w strings name) name) (withUsedBlob (w .«blob_used» + n) w))
-            (ap (λ (n : ℕ). 12 + roundUp 4 n) s ∙ sym (length-property (offsetOf (placeOf w strings name)) (valueBytes v)));
-        bytes = ap (λ (q : Interned). propertyBytes (offsetOf q) (valueBytes v)) p;
+            (ap (λ (n : ℕ). 12 + roundUp 4 n) s ∙ sym (length-property (placeOffset (placeOf w strings name)) (valueBytes v)));
+        bytes = ap (λ (q : Interned). propertyBytes (placeOffset q) (valueBytes v)) p;
       }
     where
       below : (n used : ℕ) → used + (12 + roundUp 4 n) ≤ w .«blob_room» → w .«blob_room» ≤ 65536 → n < 2 ^ 32

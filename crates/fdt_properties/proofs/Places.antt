@@ -17,7 +17,7 @@ use Rattle.fdt_strings.proofs.Places.{known-found, new-placed}
 use Rattle.fdt_record.specs.declared.Record.{Record}
 use Rattle.fdt_record.specs.Limits.{stringsCeiling}
 use Rattle.fdt_record.proofs.Fits.{FitStrings}
-use Rattle.fdt_properties.specs.Property.{placeOf, isFull, offsetOf, added, stored}
+use Rattle.fdt_properties.specs.Property.{placeOf, isFull, placeOffset, added, stored}
 use Rattle.fdt_properties.specs.Tested.{PlaceFits}
 
 -- the places that are not new: nothing is stored
@@ -30,11 +30,11 @@ not-new StringRoom name strings h = refl
 -- where a name stands or goes, in strings that the record fits
 pub record Settled (w : Record) (strings name : List ℕ) (place : Interned) : Type 0 where
   pub fits : PlaceFits place name strings
-  pub offset : offsetOf place ≤ stringsCeiling
+  pub offset : placeOffset place ≤ stringsCeiling
   pub used : w .«strings_used» + added place name ≤ w .«strings_room»
 
 pub settled : (w : Record) (strings name : List ℕ) → FitStrings w strings → isFull (placeOf w strings name) ≡ false → Settled w strings name (placeOf w strings name)
-unfolding placeOf isFull PlaceFits offsetOf added
+unfolding placeOf isFull PlaceFits placeOffset added
 settled w strings name f e = go (interned (take (w .«strings_used») strings) (w .«strings_room») name) refl e
   where
     n : length (take (w .«strings_used») strings) ≡ w .«strings_used»

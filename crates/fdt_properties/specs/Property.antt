@@ -8,7 +8,7 @@ use lib.Dec.{eqb}
 use lib.ListN.{length, take}
 use Rattle.fdt_bytes.specs.Padding.{roundUp}
 use Rattle.fdt_bytes.specs.Splice.{splice}
-use Rattle.fdt_names.specs.Grammar.{word}
+use Rattle.fdt_names.specs.Grammar.{matches}
 use Rattle.fdt_names.specs.Names.{propertyName, hasZero}
 use Rattle.fdt_strings.specs.declared.Interned.{Interned}
 use Rattle.fdt_strings.specs.declared.Interned.the-variants as place
@@ -50,7 +50,7 @@ stateRows w lent strings misfit zero =
 unfoldable pub nameRows : Record → List ℕ → List ℕ → ℕ → List Row
 nameRows w strings name len =
     (hasZero name ⇒ InvalidString)
-    ∷ (not (word propertyName name) ⇒ InvalidPropertyName)
+    ∷ (not (matches propertyName name) ⇒ InvalidPropertyName)
     ∷ (isFull (placeOf w strings name) ⇒ StringRoom)
     ∷ (noRoom w (12 + roundUp 4 len) ⇒ BlobRoom)
     ∷ []
@@ -65,10 +65,10 @@ unfoldable pub propertyAnswer : Record → ℕ → List ℕ → List ℕ → Val
 propertyAnswer w lent strings name v = first (propertyRows w lent strings name v)
 
 -- the name's offset
-unfoldable pub offsetOf : Interned → ℕ
-offsetOf (place.Known offset) = offset
-offsetOf (place.New offset) = offset
-offsetOf place.StringRoom = 0
+unfoldable pub placeOffset : Interned → ℕ
+placeOffset (place.Known offset) = offset
+placeOffset (place.New offset) = offset
+placeOffset place.StringRoom = 0
 
 -- how many bytes a new name adds to the used strings
 unfoldable pub added : Interned → List ℕ → ℕ
@@ -84,7 +84,7 @@ stored place.StringRoom name strings = strings
 
 -- the bytes of the property
 unfoldable pub written : Record → List ℕ → List ℕ → Value → List ℕ
-written w strings name v = propertyBytes (offsetOf (placeOf w strings name)) (valueBytes v)
+written w strings name v = propertyBytes (placeOffset (placeOf w strings name)) (valueBytes v)
 
 -- the record after an accepted property: its bytes are used, and those of a new name
 unfoldable pub propertyRecord : Record → List ℕ → List ℕ → Value → Record

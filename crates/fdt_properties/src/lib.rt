@@ -10,7 +10,7 @@ ghost use Rattle.fdt_values.specs.Value.{valueBytes, valueOf};
 ghost use Rattle.fdt_record.specs.Fields.{withUsedBlob, withUsedStrings};
 ghost use Rattle.fdt_record.specs.Rows.{first};
 ghost use Rattle.fdt_properties.specs.Tested.{PropertyTested, PlaceFits, PutFits};
-ghost use Rattle.fdt_properties.specs.Property.{placeOf, isFull, offsetOf, added, stored, stateRows, nameRows, PropertyOutcome};
+ghost use Rattle.fdt_properties.specs.Property.{placeOf, isFull, placeOffset, added, stored, stateRows, nameRows, PropertyOutcome};
 use fdt_format::FDT_PROP;
 use fdt_record::Answer;
 use fdt_record::Outcome;
@@ -30,8 +30,8 @@ fn is_full(place: Interned) -> bool
 }
 
 // The offset of a name.
-fn offset_of(place: Interned) -> usize
-    ensures { λ r. ⌜ r ≡ offsetOf place ⌝ }
+fn place_offset(place: Interned) -> usize
+    ensures { λ r. ⌜ r ≡ placeOffset place ⌝ }
 {
     match place {
         Interned::Known(offset) => offset,
@@ -220,7 +220,7 @@ pub fn write_property(
     put_property(
         blob,
         used,
-        offset_of(place),
+        place_offset(place),
         len,
         kind,
         bytes,

@@ -19,11 +19,11 @@ module _ (b : List ℕ) (a : Areas) (s : State) (whole : ltb (a .«structure_end
   unfolding stepAt pick
   at-end e = rw (whole, e)
 
-  pub at-property : wordAt b (s .at) ≡ propertyToken → s .room ≡ true → stepAt b a s ≡ propertyAt b a s
+  pub at-property : wordAt b (s .at) ≡ propertyToken → s .«takes_property» ≡ true → stepAt b a s ≡ propertyAt b a s
   unfolding stepAt pick
   at-property e r = rw (whole, e, r)
 
-  pub late-property : wordAt b (s .at) ≡ propertyToken → s .room ≡ false → stepAt b a s ≡ step.Bad disorder
+  pub late-property : wordAt b (s .at) ≡ propertyToken → s .«takes_property» ≡ false → stepAt b a s ≡ step.Bad disorder
   unfolding stepAt pick
   late-property e r = rw (whole, e, r)
 

@@ -82,7 +82,7 @@ fn begin_at(blob: &[u8], a: Areas, s: State) -> Step
         State {
             at: next,
             depth: s.depth + 1,
-            room: true,
+            takes_property: true,
         },
     )
 }
@@ -116,7 +116,7 @@ fn property_at(blob: &[u8], a: Areas, s: State) -> Step
         State {
             at: at + 12 + whole,
             depth: s.depth,
-            room: true,
+            takes_property: true,
         },
     )
 }
@@ -140,7 +140,7 @@ fn end_at(s: State) -> Step
         State {
             at: at + 4,
             depth: s.depth - 1,
-            room: false,
+            takes_property: false,
         },
     )
 }
@@ -176,7 +176,7 @@ pub fn step_at(blob: &[u8], a: Areas, s: State) -> Step
         return end_at(s);
     }
     if word == FDT_PROP {
-        if s.room {
+        if s.takes_property {
             return property_at(blob, a, s);
         }
         return Step::Bad(DISORDER);

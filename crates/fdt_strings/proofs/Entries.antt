@@ -9,7 +9,7 @@ use lib.ListN.{length, take, drop, length-append, length-drop, drop-of-length-le
 use lib.Seq.{append-snoc, drop-at, drop-drop, take-length, length-take-le}
 use lib.Dec.{eqb}
 use Rattle.bytes.specs.Bytes.{slice, indexOf, indexAfter}
-use Rattle.fdt_strings.specs.Entries.{entry, inFront, entries, same, firstFrom, findString, joined, NoZero, no-byte, next-byte}
+use Rattle.fdt_strings.specs.Entries.{entry, withByte, entries, same, firstFrom, findString, joined, NoZero, no-byte, next-byte}
 use Rattle.fdt_strings.specs.declared.Found.{Found}
 use Rattle.fdt_strings.specs.declared.Found.the-variants.{At, Nothing}
 
@@ -58,38 +58,38 @@ length-entry name = length-append name (0 ∷ [])
 
 -- bytes and then a 0 are an entry
 pub entries-front : {e : List ℕ} (rest : List ℕ) → NoZero e → entries (e ++ 0 ∷ rest) ≡ e ∷ entries rest
-unfolding entries inFront
+unfolding entries withByte
 entries-front rest no-byte = refl
 entries-front rest (next-byte {b = b} h n) = simp (ne-eqb b 0 (omega arith), entries-front rest n)
 
 -- what stands up to the first 0 is an entry
 pub entries-cut : (s : List ℕ) → indexOf 0 s < length s → entries s ≡ take (indexOf 0 s) s ∷ entries (drop (suc (indexOf 0 s)) s)
-unfolding entries inFront indexOf indexAfter
+unfolding entries withByte indexOf indexAfter
 entries-cut [] h = absurd (omega arith)
 entries-cut (b ∷ s) h = go (eqb b 0) (indexOf 0 s) (λ k. entries-cut s k) h
   where
     go :
         (z : Bool) (n : ℕ) → (n < length s → entries s ≡ take n s ∷ entries (drop (suc n) s)) → indexAfter z n < length (b ∷ s) →
-        cond z ([] ∷ entries s) (inFront b (entries s)) ≡ take (indexAfter z n) (b ∷ s) ∷ entries (drop (suc (indexAfter z n)) (b ∷ s))
+        cond z ([] ∷ entries s) (withByte b (entries s)) ≡ take (indexAfter z n) (b ∷ s) ∷ entries (drop (suc (indexAfter z n)) (b ∷ s))
     go true n more h = refl
-    go false n more h = ap (inFront b) (more (omega arith))
+    go false n more h = ap (withByte b) (more (omega arith))
 
 -- where no byte is 0 there is no entry
 pub entries-none : (s : List ℕ) → indexOf 0 s ≡ length s → entries s ≡ []
-unfolding entries inFront indexOf indexAfter
+unfolding entries withByte indexOf indexAfter
 entries-none [] h = refl
 entries-none (b ∷ s) h = go (eqb b 0) (indexOf 0 s) (entries s) (λ k. entries-none s k) h
   where
-    go : (z : Bool) (n : ℕ) (es : List (List ℕ)) → (n ≡ length s → es ≡ []) → indexAfter z n ≡ length (b ∷ s) → cond z ([] ∷ es) (inFront b es) ≡ []
+    go : (z : Bool) (n : ℕ) (es : List (List ℕ)) → (n ≡ length s → es ≡ []) → indexAfter z n ≡ length (b ∷ s) → cond z ([] ∷ es) (withByte b es) ≡ []
     go true n es more h = absurd (omega arith)
-    go false n es more h = ap (inFront b) (more (omega arith))
+    go false n es more h = ap (withByte b) (more (omega arith))
 
 pub entries-plain : (s : List ℕ) → Plain (entries s)
-unfolding entries inFront
+unfolding entries withByte
 entries-plain [] = no-entry
 entries-plain (b ∷ s) = go (eqb b 0) refl (entries s) (entries-plain s)
   where
-    go : (z : Bool) → eqb b 0 ≡ z → (es : List (List ℕ)) → Plain es → Plain (cond z ([] ∷ es) (inFront b es))
+    go : (z : Bool) → eqb b 0 ≡ z → (es : List (List ℕ)) → Plain es → Plain (cond z ([] ∷ es) (withByte b es))
     go true e es p = next-entry no-byte p
     go false e [] p = no-entry
     go false e (x ∷ es) (next-entry n p) = let h : 0 < b = omega (arith, eqb-false b 0 e) in next-entry (next-byte h n) p
@@ -109,11 +109,11 @@ entries-joined (next-entry {e = e} {es = es} n p) =
 
 -- strings are their entries put together, and then what stands after the last 0
 pub joined-entries : (s : List ℕ) → (t : List ℕ) × (s ≡ joined (entries s) ++ t)
-unfolding entries inFront joined entry
+unfolding entries withByte joined entry
 joined-entries [] = ([], refl)
 joined-entries (b ∷ s) = go (eqb b 0) refl (entries s) (joined-entries s)
   where
-    go : (z : Bool) → eqb b 0 ≡ z → (es : List (List ℕ)) → (t : List ℕ) × (s ≡ joined es ++ t) → (t : List ℕ) × (b ∷ s ≡ joined (cond z ([] ∷ es) (inFront b es)) ++ t)
+    go : (z : Bool) → eqb b 0 ≡ z → (es : List (List ℕ)) → (t : List ℕ) × (s ≡ joined es ++ t) → (t : List ℕ) × (b ∷ s ≡ joined (cond z ([] ∷ es) (withByte b es)) ++ t)
     go true e es p = (p .0, let n = eqb-true b 0 e in let q = p .1 in cc)
     go false e [] p = (b ∷ s, refl)
     go false e (x ∷ es) p = (p .0, ap (λ (l : List ℕ). b ∷ l) (p .1))
@@ -136,35 +136,35 @@ whole-joined (e ∷ es) = whole-append (ended e) (whole-joined es)
 
 -- what ends in 0 has an entry
 some-entry : (s : List ℕ) → (e : List ℕ) × (es : List (List ℕ)) × (entries (entry s) ≡ e ∷ es)
-unfolding entries inFront entry
+unfolding entries withByte entry
 some-entry [] = ([], [], refl)
 some-entry (b ∷ s) = go (eqb b 0) (entries (entry s)) (some-entry s)
   where
     go :
         (z : Bool) (fs : List (List ℕ)) → (e : List ℕ) × (es : List (List ℕ)) × (fs ≡ e ∷ es) →
-        (e : List ℕ) × (es : List (List ℕ)) × (cond z ([] ∷ fs) (inFront b fs) ≡ e ∷ es)
+        (e : List ℕ) × (es : List (List ℕ)) × (cond z ([] ∷ fs) (withByte b fs) ≡ e ∷ es)
     go true fs p = ([], fs, refl)
-    go false fs p = (b ∷ p .0, p .1, ap (inFront b) (p .2))
+    go false fs p = (b ∷ p .0, p .1, ap (withByte b) (p .2))
 
 pub entries-append : {s : List ℕ} (t : List ℕ) → Whole s → entries (s ++ t) ≡ entries s ++ entries t
-unfolding entries inFront entry
+unfolding entries withByte entry
 entries-append t empty = refl
 entries-append t (ended []) = refl
 entries-append t (ended (b ∷ s)) = go (eqb b 0) (some-entry s .2) (entries-append t (ended s))
   where
     go :
         {e : List ℕ} {es fs gs : List (List ℕ)} (z : Bool) → gs ≡ e ∷ es → fs ≡ gs ++ entries t →
-        cond z ([] ∷ fs) (inFront b fs) ≡ cond z ([] ∷ gs) (inFront b gs) ++ entries t
+        cond z ([] ∷ fs) (withByte b fs) ≡ cond z ([] ∷ gs) (withByte b gs) ++ entries t
     go true p q = ap (λ (l : List (List ℕ)). [] ∷ l) q
     go false p q = rw (q, p)
 
 pub joined-whole : {s : List ℕ} → Whole s → joined (entries s) ≡ s
-unfolding entries inFront joined entry
+unfolding entries withByte joined entry
 joined-whole empty = refl
 joined-whole (ended []) = refl
 joined-whole (ended (b ∷ s)) = go (eqb b 0) refl (some-entry s .2) (joined-whole (ended s))
   where
-    go : {e : List ℕ} {es gs : List (List ℕ)} (z : Bool) → eqb b 0 ≡ z → gs ≡ e ∷ es → joined gs ≡ entry s → joined (cond z ([] ∷ gs) (inFront b gs)) ≡ b ∷ entry s
+    go : {e : List ℕ} {es gs : List (List ℕ)} (z : Bool) → eqb b 0 ≡ z → gs ≡ e ∷ es → joined gs ≡ entry s → joined (cond z ([] ∷ gs) (withByte b gs)) ≡ b ∷ entry s
     go true f p q = let n = eqb-true b 0 f in cc
     go false f p q = rw p (ap (λ (l : List ℕ). b ∷ l) (rw p at q))
 

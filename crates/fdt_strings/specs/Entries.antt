@@ -17,14 +17,14 @@ pub data NoZero : List ℕ → Type 0 where
   next-byte : {b : ℕ} {s : List ℕ} → 0 < b → NoZero s → NoZero (b ∷ s)
 
 -- a byte in front of the first entry; where no 0 follows there is no entry for it
-unfoldable pub inFront : ℕ → List (List ℕ) → List (List ℕ)
-inFront b [] = []
-inFront b (e ∷ es) = (b ∷ e) ∷ es
+unfoldable pub withByte : ℕ → List (List ℕ) → List (List ℕ)
+withByte b [] = []
+withByte b (e ∷ es) = (b ∷ e) ∷ es
 
 -- the entries in order, each without the 0 that ends it; bytes after the last 0 are none
 unfoldable pub entries : List ℕ → List (List ℕ)
 entries [] = []
-entries (b ∷ s) = cond (eqb b 0) ([] ∷ entries s) (inFront b (entries s))
+entries (b ∷ s) = cond (eqb b 0) ([] ∷ entries s) (withByte b (entries s))
 
 -- entries put together, each with its 0
 unfoldable pub joined : List (List ℕ) → List ℕ

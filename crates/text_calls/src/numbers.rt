@@ -3,22 +3,22 @@ use crate::scan;
 use crate::verbs;
 
 // A number, and whether it is one.
-pub struct Found {
+pub struct Parsed {
     pub value: u64,
     pub right: bool,
 }
 
 // A number that is none.
-fn none() -> Found {
-    Found {
+fn none() -> Parsed {
+    Parsed {
         value: 0,
         right: false,
     }
 }
 
 // A number.
-fn number(value: u64) -> Found {
-    Found { value, right: true }
+fn number(value: u64) -> Parsed {
+    Parsed { value, right: true }
 }
 
 // A hexadecimal digit's number; 16 for any other byte.
@@ -32,7 +32,7 @@ fn digit(b: u8) -> u8 {
 }
 
 // A number with a hexadecimal digit more.
-fn longer_hex(n: u64, d: u64) -> Found {
+fn longer_hex(n: u64, d: u64) -> Parsed {
     if 15 < d {
         return none();
     }
@@ -43,7 +43,7 @@ fn longer_hex(n: u64, d: u64) -> Found {
 }
 
 // A number with a decimal digit more.
-fn longer(n: u64, d: u64) -> Found {
+fn longer(n: u64, d: u64) -> Parsed {
     if 9 < d {
         return none();
     }
@@ -58,7 +58,7 @@ fn longer(n: u64, d: u64) -> Found {
 }
 
 // What is found with a digit more.
-fn more(found: Found, b: u8, hex: bool) -> Found {
+fn more(found: Parsed, b: u8, hex: bool) -> Parsed {
     let d = digit(b) as u64;
     if !found.right {
         none()
@@ -70,7 +70,7 @@ fn more(found: Found, b: u8, hex: bool) -> Found {
 }
 
 // The number that a word spells from a place on.
-fn spelled(word: &[u8], from: usize, hex: bool) -> Found {
+fn spelled(word: &[u8], from: usize, hex: bool) -> Parsed {
     let mut found = number(0);
     let mut i = from;
     while i < word.len() {
@@ -81,7 +81,7 @@ fn spelled(word: &[u8], from: usize, hex: bool) -> Found {
 }
 
 // The byte that two hexadecimal digits spell.
-pub fn byte(word: &[u8]) -> Found {
+pub fn byte(word: &[u8]) -> Parsed {
     if word.len() == 2 {
         spelled(word, 0, true)
     } else {
@@ -90,7 +90,7 @@ pub fn byte(word: &[u8]) -> Found {
 }
 
 // The number that a word spells.
-fn wide(word: &[u8]) -> Found {
+fn wide(word: &[u8]) -> Parsed {
     if 2 < word.len() && scan::peek(word, 0) == b'0' && scan::peek(word, 1) == b'x' {
         spelled(word, 2, true)
     } else {
@@ -99,13 +99,13 @@ fn wide(word: &[u8]) -> Found {
 }
 
 // The number that a word spells in at most 32 bits.
-fn small(word: &[u8]) -> Found {
+fn small(word: &[u8]) -> Parsed {
     let n = wide(word);
     if n.value <= 0xffff_ffff { n } else { none() }
 }
 
 // The number at a place, for a call: a byte, one of 4 bytes, or one of 8.
-pub fn read(line: &[u8], at: usize, verb: usize) -> Found {
+pub fn read(line: &[u8], at: usize, verb: usize) -> Parsed {
     let word = scan::word(line, at);
     match verb {
         verbs::BYTES => byte(word),

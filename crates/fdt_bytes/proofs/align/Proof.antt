@@ -7,18 +7,9 @@ use borrow.Author.Needs.{needs}
 use Rattle.fdt_bytes.proofs.align.Statement.{statement}
 use Rattle.fdt_bytes.proofs.align.Tie as tie
 
-padding-of-requires : tie.Need-padding-of-requires
-padding-of-requires c κs = search needs
-
-pad-requires : tie.Need-pad-requires
-pad-requires c κs = search needs
-
-same-length : tie.Need-same-length
-same-length c = search needs
-
 returns : tie.Need-returns
 returns c =
     c .before .before .pad .ensures ∙ ap (λ (n : ℕ). over (zeros n) (c .before .before .before .before .before .before .args .rest .now)) (c .before .before .before .padding-of .ensures)
 
 pub align-spec : {M : Type 1} → statement M
-align-spec = tie.close (tie.spec padding-of-requires pad-requires same-length returns)
+align-spec = tie.close (tie.spec (λ c κs. search needs) (λ c κs. search needs) (λ c. search needs) returns)

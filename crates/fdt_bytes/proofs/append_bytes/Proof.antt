@@ -9,12 +9,6 @@ use borrow.Author.Needs.{needs}
 use Rattle.fdt_bytes.proofs.append_bytes.Statement.{statement}
 use Rattle.fdt_bytes.proofs.append_bytes.Tie as tie
 
-copy-requires : tie.Need-copy-requires
-copy-requires c κs = search needs
-
-same-length : tie.Need-same-length
-same-length c = search needs
-
 returns : tie.Need-returns
 unfolding over
 returns c =
@@ -23,4 +17,4 @@ returns c =
     c .before .before .copy .ensures .1 ∙ ap (λ (l : List ℕ). l ++ drop (length val) rest) (take-length val)
 
 pub append-bytes-spec : {M : Type 1} → statement M
-append-bytes-spec = tie.close (tie.spec copy-requires same-length returns)
+append-bytes-spec = tie.close (tie.spec (λ c κs. search needs) (λ c. search needs) returns)

@@ -12,30 +12,6 @@ use native.Mathlib.Omega.{arith}
 use Rattle.fdt_bytes.proofs.append_u64.Statement.{statement}
 use Rattle.fdt_bytes.proofs.append_u64.Tie as tie
 
-cast-append-u32 : tie.Need-cast-append-u32
-cast-append-u32 c = search needs
-
-append-u32-requires : tie.Need-append-u32-requires
-append-u32-requires c κs = search needs
-
-sub-append-u32 : tie.Need-sub-append-u32
-sub-append-u32 c = search needs
-
-part-append-u32-start : tie.Need-part-append-u32-start
-part-append-u32-start c = search needs
-
-part-append-u32-end : tie.Need-part-append-u32-end
-part-append-u32-end c = search needs
-
-cast-append-u32-2 : tie.Need-cast-append-u32-2
-cast-append-u32-2 c = search needs
-
-append-u32-requires-2 : tie.Need-append-u32-requires-2
-append-u32-requires-2 c κs = search needs
-
-same-length : tie.Need-same-length
-same-length c = search needs
-
 returns : tie.Need-returns
 unfolding splice
 returns c =
@@ -56,12 +32,6 @@ pub append-u64-spec : {M : Type 1} → statement M
 append-u64-spec =
     tie.close
     (tie.spec
-    cast-append-u32
-    append-u32-requires
-    sub-append-u32
-    part-append-u32-start
-    part-append-u32-end
-    cast-append-u32-2
-    append-u32-requires-2
-    same-length
+    (λ c. search needs) (λ c κs. search needs) (λ c. search needs) (λ c. search needs) (λ c. search needs)
+    (λ c. search needs) (λ c κs. search needs) (λ c. search needs)
     returns)

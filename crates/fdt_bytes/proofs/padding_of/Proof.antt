@@ -7,9 +7,6 @@ use native.Mathlib.Omega.{arith}
 use Rattle.fdt_bytes.proofs.padding_of.Statement.{statement}
 use Rattle.fdt_bytes.proofs.padding_of.Tie as tie
 
-rem-offset : tie.Need-rem-offset
-rem-offset c = search needs
-
 returns : tie.Need-returns
 returns c =
     let a = c .before .args in sym (padding-none (a .alignment) (a .len) (search needs) (c .if1 .taken))
@@ -22,4 +19,4 @@ returns-2 c =
     let a = c .before .args in sym (padding-some (a .alignment) (a .len) (search needs) (c .if1 .left))
 
 pub padding-of-spec : {M : Type 1} → statement M
-padding-of-spec = tie.close (tie.spec rem-offset returns sub-result returns-2)
+padding-of-spec = tie.close (tie.spec (λ c. search needs) returns sub-result returns-2)

@@ -23,12 +23,6 @@ fits :
     Finishable (a .w) (length (a .blob .now)) (a .strings .now)
 fits c = finish-fits _ _ _ (sym (c .before .before .finish-tests .ensures) ∙ accepts-done _ (passed c))
 
-finish-tests-requires : tie.Need-finish-tests-requires
-finish-tests-requires c κs = search needs
-
-accepted-requires : tie.Need-accepted-requires
-accepted-requires c κs = search needs
-
 returns : tie.Need-returns
 unfolding finish finishBlob
 returns c =
@@ -51,9 +45,6 @@ add-after c = let f = fits (c .before .before .before .before .before) in omega 
 add-after-2 : tie.Need-add-after-2
 add-after-2 c = let f = fits (c .before .before .before .before .before .before) in omega (arith, f .room, f .small)
 
-same-length : tie.Need-same-length
-same-length c = search needs
-
 returns-2 : tie.Need-returns-2
 unfolding finish finishBlob finishedRecord
 returns-2 c =
@@ -69,11 +60,10 @@ pub finish-spec : {M : Type 1} → statement M
 finish-spec =
     tie.close
     (tie.spec
-    finish-tests-requires
-    accepted-requires
+    (λ c κs. search needs) (λ c κs. search needs)
     returns
     put-finish-requires
     add-after
     add-after-2
-    same-length
+    (λ c. search needs)
     returns-2)

@@ -36,12 +36,6 @@ passed-5 : (c : tie.Else2) → Passed 5 (c .before .before .before .before .befo
 unfolding finishRows stringsRows blobRows aloneRows
 passed-5 c = passed-4 (c .before .before) ∙ skip _ _ (ap not (eq-eqb _ 0 (c .if2 .left)))
 
-strings-tests-requires : tie.Need-strings-tests-requires
-strings-tests-requires c κs = search needs
-
-accepted-requires : tie.Need-accepted-requires
-accepted-requires c κs = search needs
-
 returns : tie.Need-returns
 unfolding finishAnswer finishRows
 returns c = stands _ (strings-refusals _ _ _) (c .before .before .strings-tests .ensures) _ (sym (c .before .accepted .ensures) ∙ not-true _ (c .if1 .taken))
@@ -52,9 +46,6 @@ returns-2 c = sym (passed-4 (c .before .before) ∙ hit _ _ (ap not (ne-eqb _ 0 
 
 add-no-room : tie.Need-add-no-room
 add-no-room c = let f = fits (c .before .before .before) in omega (arith, f .used, f .small)
-
-no-room-requires : tie.Need-no-room-requires
-no-room-requires c κs = search needs
 
 returns-3 : tie.Need-returns-3
 unfolding finishRows stringsRows blobRows aloneRows
@@ -68,11 +59,10 @@ pub finish-tests-spec : {M : Type 1} → statement M
 finish-tests-spec =
     tie.close
     (tie.spec
-    strings-tests-requires
-    accepted-requires
+    (λ c κs. search needs) (λ c κs. search needs)
     returns
     returns-2
     add-no-room
-    no-room-requires
+    (λ c κs. search needs)
     returns-3
     returns-4)

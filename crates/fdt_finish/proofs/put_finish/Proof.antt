@@ -6,12 +6,6 @@ use native.Mathlib.Omega.{arith}
 use Rattle.fdt_finish.proofs.put_finish.Statement.{statement}
 use Rattle.fdt_finish.proofs.put_finish.Tie as tie
 
-add-at : tie.Need-add-at
-add-at c = search needs
-
-update-u32-requires : tie.Need-update-u32-requires
-update-u32-requires c κs = search needs
-
 slice-aggregate-bytes-at : tie.Need-slice-aggregate-bytes-at
 slice-aggregate-bytes-at c =
     let s = c .before .before .before .before .before .before .before .before in
@@ -21,30 +15,6 @@ bytes-at-requires : tie.Need-bytes-at-requires
 bytes-at-requires c κs =
     let s = c .before .before .before .before .before .before .before .before in
     omega (arith, length-take-le (s .args .w .«strings_used») (s .args .strings .now) (omega arith))
-
-structure-start-requires : tie.Need-structure-start-requires
-structure-start-requires c κs = search needs
-
-cast-t17 : tie.Need-cast-t17
-cast-t17 c = search needs
-
-cast-t18 : tie.Need-cast-t18
-cast-t18 c = search needs
-
-cast-t19 : tie.Need-cast-t19
-cast-t19 c = search needs
-
-words-requires : tie.Need-words-requires
-words-requires c κs = search needs
-
-slice-aggregate-cells-at : tie.Need-slice-aggregate-cells-at
-slice-aggregate-cells-at c = search needs
-
-cells-at-requires : tie.Need-cells-at-requires
-cells-at-requires c κs = search needs
-
-same-length : tie.Need-same-length
-same-length c = search needs
 
 returns : tie.Need-returns
 returns c =
@@ -60,16 +30,9 @@ pub put-finish-spec : {M : Type 1} → statement M
 put-finish-spec =
     tie.close
     (tie.spec
-    add-at
-    update-u32-requires
+    (λ c. search needs) (λ c κs. search needs)
     slice-aggregate-bytes-at
     bytes-at-requires
-    structure-start-requires
-    cast-t17
-    cast-t18
-    cast-t19
-    words-requires
-    slice-aggregate-cells-at
-    cells-at-requires
-    same-length
+    (λ c κs. search needs) (λ c. search needs) (λ c. search needs) (λ c. search needs) (λ c κs. search needs)
+    (λ c. search needs) (λ c κs. search needs) (λ c. search needs)
     returns)

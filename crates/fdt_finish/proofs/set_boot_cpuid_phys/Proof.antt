@@ -7,12 +7,6 @@ use Rattle.fdt_finish.specs.Boot.{bootAnswer, boot}
 use Rattle.fdt_finish.proofs.set_boot_cpuid_phys.Statement.{statement}
 use Rattle.fdt_finish.proofs.set_boot_cpuid_phys.Tie as tie
 
-alone-tests-requires : tie.Need-alone-tests-requires
-alone-tests-requires c κs = search needs
-
-accepted-requires : tie.Need-accepted-requires
-accepted-requires c κs = search needs
-
 returns : tie.Need-returns
 unfolding boot bootAnswer
 returns c = outcome-refused _ _ (c .before .before .alone-tests .ensures) _ _ (sym (c .before .accepted .ensures) ∙ not-true _ (c .if1 .taken))
@@ -22,4 +16,4 @@ unfolding boot bootAnswer
 returns-2 c = outcome-accepted _ _ (c .before .before .alone-tests .ensures) _ _ (sym (c .before .accepted .ensures) ∙ not-false _ (c .if1 .left))
 
 pub set-boot-cpuid-phys-spec : {M : Type 1} → statement M
-set-boot-cpuid-phys-spec = tie.close (tie.spec alone-tests-requires accepted-requires returns returns-2)
+set-boot-cpuid-phys-spec = tie.close (tie.spec (λ c κs. search needs) (λ c κs. search needs) returns returns-2)

@@ -11,9 +11,6 @@ use Rattle.fdt_finish.proofs.Shown.{shown-unfinished, shown-misfit, sho
 use Rattle.fdt_finish.proofs.show.Statement.{statement}
 use Rattle.fdt_finish.proofs.show.Tie as tie
 
-usable-length-requires : tie.Need-usable-length-requires
-usable-length-requires c κs = search needs
-
 slice-aggregate-result : tie.Need-slice-aggregate-result
 slice-aggregate-result c =
     let u = c .before .before .before .before .before in
@@ -23,9 +20,6 @@ returns : tie.Need-returns
 returns c =
     let u = c .before .before .before .before .before in
     sym (shown-whole _ _ (u .before .if1 .taken) (u .usable-length .ensures) (omega arith) (omega arith))
-
-slice-aggregate-result-2 : tie.Need-slice-aggregate-result-2
-slice-aggregate-result-2 c = search needs
 
 returns-2 : tie.Need-returns-2
 returns-2 c =
@@ -40,8 +34,8 @@ pub show-spec : {M : Type 1} → statement M
 show-spec =
     tie.close
     (tie.spec
-    usable-length-requires
+    (λ c κs. search needs)
     slice-aggregate-result
     returns
-    slice-aggregate-result-2
+    (λ c. search needs)
     returns-2)

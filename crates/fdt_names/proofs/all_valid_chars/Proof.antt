@@ -20,24 +20,12 @@ abbrev μ-loop : tie.MeasureT-loop
 loop-holds : tie.Need-loop-holds Inv-loop μ-loop
 loop-holds c = (omega arith, refl)
 
-shared-slice-read-name-valid-char : tie.Need-shared-slice-read-name-valid-char Inv-loop μ-loop
-shared-slice-read-name-valid-char c = omega arith
-
-name-valid-char-requires : tie.Need-name-valid-char-requires Inv-loop μ-loop
-name-valid-char-requires c κs = search needs
-
 returns : tie.Need-returns Inv-loop μ-loop
 returns c =
     let turn = c .before .before .before in
     sym
     (turn .before .loop .inv .1 ∙ all-next _ _ _ (turn .loop-test .taken)
     ∙ and-no (c .before .name-valid-char .ensures) _ (c .if1 .taken))
-
-add-i : tie.Need-add-i Inv-loop μ-loop
-add-i c = omega arith
-
-loop-less : tie.Need-loop-less Inv-loop μ-loop
-loop-less c = omega arith
 
 loop-again : tie.Need-loop-again Inv-loop μ-loop
 loop-again c =
@@ -58,10 +46,8 @@ all-valid-chars-spec =
     Inv-loop
     μ-loop
     loop-holds
-    shared-slice-read-name-valid-char
-    name-valid-char-requires
+    (λ c. omega arith) (λ c κs. search needs)
     returns
-    add-i
-    loop-less
+    (λ c. omega arith) (λ c. omega arith)
     loop-again
     returns-2)

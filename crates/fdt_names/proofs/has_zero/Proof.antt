@@ -5,11 +5,8 @@ use Rattle.fdt_names.proofs.Names.{has-zero}
 use Rattle.fdt_names.proofs.has_zero.Statement.{statement}
 use Rattle.fdt_names.proofs.has_zero.Tie as tie
 
-contains-requires : tie.Need-contains-requires
-contains-requires c κs = search needs
-
 returns : tie.Need-returns
 returns c = c .contains .ensures ∙ has-zero _
 
 pub has-zero-spec : {M : Type 1} → statement M
-has-zero-spec = tie.close (tie.spec contains-requires returns)
+has-zero-spec = tie.close (tie.spec (λ c κs. search needs) returns)

@@ -5,15 +5,6 @@ use Rattle.fdt_names.proofs.Tests.{or-yes, or-no}
 use Rattle.fdt_names.proofs.name_valid_char.Statement.{statement}
 use Rattle.fdt_names.proofs.name_valid_char.Tie as tie
 
-node-name-valid-first-char-requires : tie.Need-node-name-valid-first-char-requires
-node-name-valid-first-char-requires c κs = search needs
-
-within-requires : tie.Need-within-requires
-within-requires c κs = search needs
-
-contains-requires : tie.Need-contains-requires
-contains-requires c κs = search needs
-
 returns : tie.Need-returns
 unfolding nameByte
 returns c = or-yes (c .before .node-name-valid-first-char .ensures) _ (c .if1 .taken)
@@ -37,9 +28,7 @@ pub name-valid-char-spec : {M : Type 1} → statement M
 name-valid-char-spec =
     tie.close
     (tie.spec
-    node-name-valid-first-char-requires
-    within-requires
-    contains-requires
+    (λ c κs. search needs) (λ c κs. search needs) (λ c κs. search needs)
     returns
     returns-2
     returns-3)

@@ -8,7 +8,7 @@ use lib.ListN.{take, drop, drop-of-length-le}
 use borrow.Rule.Slice.PartAt.{part-to-end}
 use borrow.Author.Needs.{needs}
 use borrow.Author.Tests.{eq-eqb, le-leb, lt-leb}
-use Rattle.fdt_names.specs.Grammar.{all, word}
+use Rattle.fdt_names.specs.Grammar.{all, matches}
 use Rattle.fdt_names.specs.Names.{nodeByte, nodeName}
 use Rattle.fdt_names.proofs.Names.{name-parts}
 use Rattle.fdt_names.proofs.Tests.{and-no, and-yes}
@@ -24,7 +24,7 @@ begun :
     let found = c .before .before .before .before in
     let name = found .before .before .before .args .name .now in
     let at = found .find .result in
-    word nodeName name ≡ (all nodeByte (take (at - 1) (drop 1 name)) && all nodeByte (drop (at + 1) name))
+    matches nodeName name ≡ (all nodeByte (take (at - 1) (drop 1 name)) && all nodeByte (drop (at + 1) name))
 begun c =
     let found = c .before .before .before .before in
     name-parts _ (omega arith) (found .find .ensures .0)
@@ -36,25 +36,19 @@ based :
     (c : tie.Else4) →
     let found = c .before .before .before .before .before .before .before .before in
     let name = found .before .before .before .args .name .now in
-    word nodeName name ≡ all nodeByte (drop (found .find .result + 1) name)
+    matches nodeName name ≡ all nodeByte (drop (found .find .result + 1) name)
 unfolding nodeByte
 based c =
     begun (c .before .before .before .before)
     ∙ and-yes (c .before .all-valid-chars .ensures) _ (c .if4 .left)
 
 returns : tie.Need-returns
-unfolding word nodeName
+unfolding matches nodeName
 returns c = sym (simp (eq-eqb _ 0 (c .if1 .taken)))
-
-find-requires : tie.Need-find-requires
-find-requires c κs = search needs
 
 shared-slice-read-node-name-valid-first-char :
     tie.Need-shared-slice-read-node-name-valid-first-char
 shared-slice-read-node-name-valid-first-char c = search needs
-
-node-name-valid-first-char-requires : tie.Need-node-name-valid-first-char-requires
-node-name-valid-first-char-requires c κs = search needs
 
 returns-2 : tie.Need-returns-2
 returns-2 c =
@@ -62,21 +56,6 @@ returns-2 c =
     (λ w. simp (lt-leb (c .before .find .result) 31 (w .taken), and-false))
     (λ w. and-no (w .2 .ensures) _ (w .3 .taken))
     (c .if2 .came))
-
-sub-all-valid-chars : tie.Need-sub-all-valid-chars
-sub-all-valid-chars c = search needs
-
-part-all-valid-chars-start : tie.Need-part-all-valid-chars-start
-part-all-valid-chars-start c = search needs
-
-part-all-valid-chars-end : tie.Need-part-all-valid-chars-end
-part-all-valid-chars-end c = search needs
-
-slice-aggregate-all-valid-chars : tie.Need-slice-aggregate-all-valid-chars
-slice-aggregate-all-valid-chars c = search needs
-
-all-valid-chars-requires : tie.Need-all-valid-chars-requires
-all-valid-chars-requires c κs = search needs
 
 returns-3 : tie.Need-returns-3
 unfolding nodeByte
@@ -86,24 +65,6 @@ returns-3 c =
 returns-4 : tie.Need-returns-4
 unfolding all
 returns-4 c = sym (based (c .before) ∙ ap (all nodeByte) (drop-of-length-le _ (past (c .if5 .taken))))
-
-add-next : tie.Need-add-next
-add-next c = search needs
-
-sub-all-valid-chars-2 : tie.Need-sub-all-valid-chars-2
-sub-all-valid-chars-2 c = search needs
-
-part-all-valid-chars-start-2 : tie.Need-part-all-valid-chars-start-2
-part-all-valid-chars-start-2 c = search needs
-
-part-all-valid-chars-end-2 : tie.Need-part-all-valid-chars-end-2
-part-all-valid-chars-end-2 c = search needs
-
-slice-aggregate-all-valid-chars-2 : tie.Need-slice-aggregate-all-valid-chars-2
-slice-aggregate-all-valid-chars-2 c = search needs
-
-all-valid-chars-requires-2 : tie.Need-all-valid-chars-requires-2
-all-valid-chars-requires-2 c κs = search needs
 
 returns-5 : tie.Need-returns-5
 unfolding nodeByte
@@ -115,21 +76,13 @@ node-name-valid-spec =
     tie.close
     (tie.spec
     returns
-    find-requires
+    (λ c κs. search needs)
     shared-slice-read-node-name-valid-first-char
-    node-name-valid-first-char-requires
+    (λ c κs. search needs)
     returns-2
-    sub-all-valid-chars
-    part-all-valid-chars-start
-    part-all-valid-chars-end
-    slice-aggregate-all-valid-chars
-    all-valid-chars-requires
+    (λ c. search needs) (λ c. search needs) (λ c. search needs) (λ c. search needs) (λ c κs. search needs)
     returns-3
     returns-4
-    add-next
-    sub-all-valid-chars-2
-    part-all-valid-chars-start-2
-    part-all-valid-chars-end-2
-    slice-aggregate-all-valid-chars-2
-    all-valid-chars-requires-2
+    (λ c. search needs) (λ c. search needs) (λ c. search needs) (λ c. search needs) (λ c. search needs)
+    (λ c κs. search needs)
     returns-5)

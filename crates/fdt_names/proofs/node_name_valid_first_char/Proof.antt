@@ -5,12 +5,6 @@ use Rattle.fdt_names.proofs.Tests.{or-yes, or-no}
 use Rattle.fdt_names.proofs.node_name_valid_first_char.Statement.{statement}
 use Rattle.fdt_names.proofs.node_name_valid_first_char.Tie as tie
 
-within-requires : tie.Need-within-requires
-within-requires c κs = search needs
-
-within-requires-2 : tie.Need-within-requires-2
-within-requires-2 c κs = search needs
-
 returns : tie.Need-returns
 unfolding letter
 returns c = or-yes (c .before .within .ensures) _ (c .if1 .taken)
@@ -21,4 +15,4 @@ returns-2 c = or-no (c .before .before .within .ensures) _ (c .before .if1 .left
 
 pub node-name-valid-first-char-spec : {M : Type 1} → statement M
 node-name-valid-first-char-spec =
-    tie.close (tie.spec within-requires within-requires-2 returns returns-2)
+    tie.close (tie.spec (λ c κs. search needs) (λ c κs. search needs) returns returns-2)

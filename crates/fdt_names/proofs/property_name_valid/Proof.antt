@@ -6,13 +6,13 @@ use native.Mathlib.Omega.{arith}
 use lib.ListN.{length}
 use borrow.Author.Needs.{needs}
 use borrow.Author.Tests.{ltb-true, ltb-false, le-leb, lt-leb}
-use Rattle.fdt_names.specs.Grammar.{word}
+use Rattle.fdt_names.specs.Grammar.{matches}
 use Rattle.fdt_names.specs.Names.{propertyByte, propertyName}
 use Rattle.fdt_names.proofs.property_name_valid.Statement.{statement}
 use Rattle.fdt_names.proofs.property_name_valid.Tie as tie
 
 returns : tie.Need-returns
-unfolding word propertyName
+unfolding matches propertyName
 returns c =
     let n = length (c .before .before .args .name .now) in
     ⊎-elim
@@ -20,18 +20,12 @@ returns c =
     (λ w. sym (simp (lt-leb n 31 (omega (arith, ltb-true)), and-false)))
     (c .if1 .came)
 
-slice-aggregate-all-valid-chars : tie.Need-slice-aggregate-all-valid-chars
-slice-aggregate-all-valid-chars c = search needs
-
-all-valid-chars-requires : tie.Need-all-valid-chars-requires
-all-valid-chars-requires c κs = search needs
-
 returns-2 : tie.Need-returns-2
-unfolding word propertyName propertyByte
+unfolding matches propertyName propertyByte
 returns-2 c =
     let n = length (c .before .before .before .before .before .args .name .now) in
     c .all-valid-chars .ensures ∙ sym (simp (le-leb 1 n (omega arith), le-leb n 31 (omega (arith, ltb-false))))
 
 pub property-name-valid-spec : {M : Type 1} → statement M
 property-name-valid-spec =
-    tie.close (tie.spec returns slice-aggregate-all-valid-chars all-valid-chars-requires returns-2)
+    tie.close (tie.spec returns (λ c. search needs) (λ c κs. search needs) returns-2)

@@ -18,12 +18,6 @@ went :
 went c =
     begin-fits _ _ _ (sym (c .before .before .begin-tests .ensures) ∙ accepts-done _ (sym (c .before .accepted .ensures) ∙ not-false _ (c .if1 .left)))
 
-begin-tests-requires : tie.Need-begin-tests-requires
-begin-tests-requires c κs = search needs
-
-accepted-requires : tie.Need-accepted-requires
-accepted-requires c κs = search needs
-
 returns : tie.Need-returns
 unfolding beginBlob
 returns c =
@@ -37,9 +31,6 @@ returns c =
 put-begin-requires : tie.Need-put-begin-requires
 put-begin-requires c κs = let f = went (c .before) in omega (arith, f .room, f .blob .within)
 
-begin-size-requires : tie.Need-begin-size-requires
-begin-size-requires c κs = search needs
-
 add-after : tie.Need-add-after
 add-after c = let f = went (c .before .before .before .before .before) in omega (arith, f .room, f .blob .small, c .begin-size .ensures)
 
@@ -48,9 +39,6 @@ add-after-2 c = let f = went (c .before .before .before .before .before .before)
 
 add-t7 : tie.Need-add-t7
 add-t7 c = let f = went (c .before .before .before .before .before .before .before) in omega (arith, f .depth)
-
-same-length : tie.Need-same-length
-same-length c = search needs
 
 returns-2 : tie.Need-returns-2
 unfolding beginBlob
@@ -66,13 +54,12 @@ pub begin-node-spec : {M : Type 1} → statement M
 begin-node-spec =
     tie.close
     (tie.spec
-    begin-tests-requires
-    accepted-requires
+    (λ c κs. search needs) (λ c κs. search needs)
     returns
     put-begin-requires
-    begin-size-requires
+    (λ c κs. search needs)
     add-after
     add-after-2
     add-t7
-    same-length
+    (λ c. search needs)
     returns-2)

@@ -11,12 +11,6 @@ use native.Mathlib.Omega.{arith}
 use Rattle.fdt_nodes.proofs.begin_size.Statement.{statement}
 use Rattle.fdt_nodes.proofs.begin_size.Tie as tie
 
-add-stored : tie.Need-add-stored
-add-stored c = search needs
-
-padding-of-requires : tie.Need-padding-of-requires
-padding-of-requires c κs = search needs
-
 add-result : tie.Need-add-result
 add-result c =
     let n = length (c .before .before .args .name .now) + 1 in omega (arith, padding-small 4 n (lit< tt), c .padding-of .ensures)
@@ -33,4 +27,4 @@ returns c =
 
 pub begin-size-spec : {M : Type 1} → statement M
 begin-size-spec =
-    tie.close (tie.spec add-stored padding-of-requires add-result add-result-2 returns)
+    tie.close (tie.spec (λ c. search needs) (λ c κs. search needs) add-result add-result-2 returns)

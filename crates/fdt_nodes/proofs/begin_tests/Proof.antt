@@ -40,12 +40,6 @@ passed-6 c = passed-5 (c .before .before) ∙ skip _ _ (ap not (sym (c .before .
 room : (c : tie.After-no-room) → let a = c .before .before .before .before .before .before .before .before .before .before .before .before .args in noRoom (a .w) (length (beginBytes (a .name .now))) ≡ c .no-room .result
 room c = sym (c .no-room .ensures ∙ ap (noRoom _) (c .before .begin-size .ensures))
 
-blob-tests-requires : tie.Need-blob-tests-requires
-blob-tests-requires c κs = search needs
-
-accepted-requires : tie.Need-accepted-requires
-accepted-requires c κs = search needs
-
 returns : tie.Need-returns
 unfolding beginAnswer beginRows
 returns c = stands _ (blob-refusals _ _) (c .before .before .blob-tests .ensures) _ (sym (c .before .accepted .ensures) ∙ not-true _ (c .if1 .taken))
@@ -54,25 +48,13 @@ returns-2 : tie.Need-returns-2
 unfolding beginRows blobRows aloneRows
 returns-2 c = sym (passed-3 (c .before .before) ∙ hit _ _ (le-leb 64 _ (c .if2 .taken)))
 
-has-zero-requires : tie.Need-has-zero-requires
-has-zero-requires c κs = search needs
-
 returns-3 : tie.Need-returns-3
 unfolding beginRows blobRows aloneRows
 returns-3 c = sym (passed-4 (c .before .before) ∙ hit _ _ (sym (c .before .has-zero .ensures) ∙ c .if3 .taken))
 
-node-name-valid-requires : tie.Need-node-name-valid-requires
-node-name-valid-requires c κs = search needs
-
 returns-4 : tie.Need-returns-4
 unfolding beginRows blobRows aloneRows
 returns-4 c = sym (passed-5 (c .before .before) ∙ hit _ _ (ap not (sym (c .before .node-name-valid .ensures)) ∙ c .if4 .taken))
-
-begin-size-requires : tie.Need-begin-size-requires
-begin-size-requires c κs = search needs
-
-no-room-requires : tie.Need-no-room-requires
-no-room-requires c κs = search needs
 
 returns-5 : tie.Need-returns-5
 unfolding beginRows blobRows aloneRows
@@ -86,15 +68,13 @@ pub begin-tests-spec : {M : Type 1} → statement M
 begin-tests-spec =
     tie.close
     (tie.spec
-    blob-tests-requires
-    accepted-requires
+    (λ c κs. search needs) (λ c κs. search needs)
     returns
     returns-2
-    has-zero-requires
+    (λ c κs. search needs)
     returns-3
-    node-name-valid-requires
+    (λ c κs. search needs)
     returns-4
-    begin-size-requires
-    no-room-requires
+    (λ c κs. search needs) (λ c κs. search needs)
     returns-5
     returns-6)

@@ -20,12 +20,6 @@ went :
 went c =
     end-fits _ _ _ (sym (c .before .before .end-tests .ensures) ∙ accepts-done _ (sym (c .before .accepted .ensures) ∙ not-false _ (c .if1 .left)))
 
-end-tests-requires : tie.Need-end-tests-requires
-end-tests-requires c κs = search needs
-
-accepted-requires : tie.Need-accepted-requires
-accepted-requires c κs = search needs
-
 returns : tie.Need-returns
 unfolding end endBlob
 returns c =
@@ -42,9 +36,6 @@ add-after c = let f = went (c .before .before .before .before) in omega (arith, 
 sub-after : tie.Need-sub-after
 sub-after c = let f = went (c .before .before .before .before .before) in omega (arith, f .depth)
 
-same-length : tie.Need-same-length
-same-length c = search needs
-
 returns-2 : tie.Need-returns-2
 unfolding end endBlob endBytes
 returns-2 c =
@@ -59,11 +50,10 @@ pub end-node-spec : {M : Type 1} → statement M
 end-node-spec =
     tie.close
     (tie.spec
-    end-tests-requires
-    accepted-requires
+    (λ c κs. search needs) (λ c κs. search needs)
     returns
     update-u32-requires
     add-after
     sub-after
-    same-length
+    (λ c. search needs)
     returns-2)

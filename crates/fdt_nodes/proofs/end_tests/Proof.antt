@@ -31,15 +31,9 @@ passed-4 : (c : tie.Else3) → Passed 4 (c .before .before .before .before .befo
 unfolding endRows blobRows aloneRows
 passed-4 c = passed-3 (c .before .before .before .before .before) ∙ skip _ _ (or-none _ _ (ap not (eq-eqb _ _ (c .before .before .if2 .left))) (ne-eqb _ 0 (c .if3 .left)))
 
--- whether the word has no room
+-- whether the matches has no room
 room : (c : tie.After-no-room) → noRoom (c .before .before .before .before .before .before .before .before .before .args .w) (length endBytes) ≡ c .no-room .result
 room c = sym (c .no-room .ensures ∙ ap (noRoom _) (sym length-end))
-
-blob-tests-requires : tie.Need-blob-tests-requires
-blob-tests-requires c κs = search needs
-
-accepted-requires : tie.Need-accepted-requires
-accepted-requires c κs = search needs
 
 returns : tie.Need-returns
 unfolding endAnswer endRows
@@ -55,9 +49,6 @@ returns-3 c =
     let a = c .before .before .before .before .before .before .before .before .args in
     sym (passed-3 (c .before .before .before .before .before) ∙ hit _ _ (or-second (not (eqb (a .node .0) (a .w .«node_depth»))) _ (eq-eqb _ 0 (c .if3 .taken))))
 
-no-room-requires : tie.Need-no-room-requires
-no-room-requires c κs = search needs
-
 returns-4 : tie.Need-returns-4
 unfolding endRows blobRows aloneRows
 returns-4 c = sym (passed-4 (c .before .before) ∙ hit _ _ (room (c .before) ∙ c .if4 .taken))
@@ -70,11 +61,10 @@ pub end-tests-spec : {M : Type 1} → statement M
 end-tests-spec =
     tie.close
     (tie.spec
-    blob-tests-requires
-    accepted-requires
+    (λ c κs. search needs) (λ c κs. search needs)
     returns
     returns-2
     returns-3
-    no-room-requires
+    (λ c κs. search needs)
     returns-4
     returns-5)

@@ -9,26 +9,14 @@ use Rattle.fdt_nodes.proofs.put_begin.Tie as tie
 update-u32-requires : tie.Need-update-u32-requires
 update-u32-requires c κs = omega (arith, begin-parts (c .before .before .before .args .name .now), c .before .before .before .pre)
 
-add-at : tie.Need-add-at
-add-at c = search needs
-
 store-string-requires : tie.Need-store-string-requires
 store-string-requires c κs = omega (arith, begin-parts (c .before .before .before .before .before .before .before .args .name .now), length-entry (c .before .before .before .before .before .before .before .args .name .now), c .before .before .before .before .before .before .before .pre)
-
-add-stored : tie.Need-add-stored
-add-stored c = search needs
 
 add-zeros-at : tie.Need-add-zeros-at
 add-zeros-at c = omega (arith, begin-parts (c .before .before .before .before .before .before .before .before .before .before .before .args .name .now), c .before .before .before .before .before .before .before .before .before .before .before .pre)
 
-padding-of-requires : tie.Need-padding-of-requires
-padding-of-requires c κs = search needs
-
 zeros-at-requires : tie.Need-zeros-at-requires
 zeros-at-requires c κs = omega (arith, begin-parts (c .before .before .before .before .before .before .before .before .before .before .before .before .args .name .now), c .padding-of .ensures, c .before .before .before .before .before .before .before .before .before .before .before .before .pre)
-
-same-length : tie.Need-same-length
-same-length c = search needs
 
 returns : tie.Need-returns
 returns c =
@@ -40,11 +28,11 @@ put-begin-spec =
     tie.close
     (tie.spec
     update-u32-requires
-    add-at
+    (λ c. search needs)
     store-string-requires
-    add-stored
+    (λ c. search needs)
     add-zeros-at
-    padding-of-requires
+    (λ c κs. search needs)
     zeros-at-requires
-    same-length
+    (λ c. search needs)
     returns)

@@ -17,15 +17,6 @@ fits :
 fits c =
     opened-fits _ _ (sym (c .before .before .opening-tests .ensures) ∙ accepts-done _ (sym (c .before .accepted .ensures) ∙ not-false _ (c .if1 .left)))
 
-opening-tests-requires : tie.Need-opening-tests-requires
-opening-tests-requires c κs = search needs
-
-accepted-requires : tie.Need-accepted-requires
-accepted-requires c κs = search needs
-
-closed-requires : tie.Need-closed-requires
-closed-requires c κs = search needs
-
 returns : tie.Need-returns
 returns c =
     refused-outcome _ _ _ _ _ (c .before .before .before .opening-tests .ensures) _
@@ -37,9 +28,6 @@ write-mem-rsvmap-requires c κs = fits (c .before) .room
 
 opened-requires : tie.Need-opened-requires
 opened-requires c κs = let f = fits (c .before .before .before .before) in omega (arith, f .even, f .few)
-
-same-length : tie.Need-same-length
-same-length c = search needs
 
 returns-2 : tie.Need-returns-2
 returns-2 c =
@@ -53,11 +41,9 @@ pub open-spec : {M : Type 1} → statement M
 open-spec =
     tie.close
     (tie.spec
-    opening-tests-requires
-    accepted-requires
-    closed-requires
+    (λ c κs. search needs) (λ c κs. search needs) (λ c κs. search needs)
     returns
     write-mem-rsvmap-requires
     opened-requires
-    same-length
+    (λ c. search needs)
     returns-2)

@@ -46,25 +46,13 @@ returns-2 : tie.Need-returns-2
 unfolding openingRows
 returns-2 c = sym (passed-1 (c .before) ∙ hit _ _ (lt-ltb 64 _ (c .if2 .taken)))
 
-some-invalid-requires : tie.Need-some-invalid-requires
-some-invalid-requires c κs = search needs
-
 returns-3 : tie.Need-returns-3
 unfolding openingRows
 returns-3 c = sym (passed-2 (c .before .before) ∙ hit _ _ (sym (c .before .some-invalid .ensures) ∙ c .if3 .taken))
 
-check-overlapping-requires : tie.Need-check-overlapping-requires
-check-overlapping-requires c κs = search needs
-
 returns-4 : tie.Need-returns-4
 unfolding openingRows
 returns-4 c = sym (passed-3 (c .before .before) ∙ hit _ _ (sym (overlap-told _ _ (c .before .check-overlapping .ensures)) ∙ c .if4 .taken))
-
-usable-length-requires : tie.Need-usable-length-requires
-usable-length-requires c κs = search needs
-
-structure-start-requires : tie.Need-structure-start-requires
-structure-start-requires c κs = search needs
 
 returns-5 : tie.Need-returns-5
 unfolding openingRows
@@ -80,11 +68,10 @@ opening-tests-spec =
     (tie.spec
     returns
     returns-2
-    some-invalid-requires
+    (λ c κs. search needs)
     returns-3
-    check-overlapping-requires
+    (λ c κs. search needs)
     returns-4
-    usable-length-requires
-    structure-start-requires
+    (λ c κs. search needs) (λ c κs. search needs)
     returns-5
     returns-6)

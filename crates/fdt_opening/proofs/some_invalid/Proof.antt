@@ -23,15 +23,6 @@ loop-holds : tie.Need-loop-holds Inv-loop μ-loop
 unfolding some
 loop-holds c = (search needs, refl)
 
-entry-at-requires : tie.Need-entry-at-requires Inv-loop μ-loop
-entry-at-requires c κs = search needs
-
-new-requires : tie.Need-new-requires Inv-loop μ-loop
-new-requires c κs = search needs
-
-enum-told : tie.Need-enum-told Inv-loop μ-loop
-enum-told c = search needs
-
 returns : tie.Need-returns Inv-loop μ-loop
 unfolding someInvalid
 returns c =
@@ -39,15 +30,6 @@ returns c =
     sym
     (some-at _ _ (l .i) (c .before .before .before .before .loop-test .taken)
     (refused-invalid _ _ _ _ (c .before .before .before .entry-at .ensures) (c .before .before .new .ensures) (c .enum-told .given .1)))
-
-enum-told-2 : tie.Need-enum-told-2 Inv-loop μ-loop
-enum-told-2 c = search needs
-
-add-i : tie.Need-add-i Inv-loop μ-loop
-add-i c = search needs
-
-loop-less : tie.Need-loop-less Inv-loop μ-loop
-loop-less c = search needs
 
 loop-again : tie.Need-loop-again Inv-loop μ-loop
 loop-again c =
@@ -69,12 +51,8 @@ some-invalid-spec =
     Inv-loop
     μ-loop
     loop-holds
-    entry-at-requires
-    new-requires
-    enum-told
+    (λ c κs. search needs) (λ c κs. search needs) (λ c. search needs)
     returns
-    enum-told-2
-    add-i
-    loop-less
+    (λ c. search needs) (λ c. search needs) (λ c. search needs)
     loop-again
     returns-2)

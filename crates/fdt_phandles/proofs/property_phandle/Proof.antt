@@ -18,18 +18,6 @@ went :
 went c =
     record-fits _ _ _ _ _ (sym (c .before .before .record-tests .ensures) ∙ accepts-done _ (sym (c .before .accepted .ensures) ∙ not-false _ (c .if1 .left)))
 
-record-tests-requires : tie.Need-record-tests-requires
-record-tests-requires c κs = search needs
-
-accepted-requires : tie.Need-accepted-requires
-accepted-requires c κs = search needs
-
-same-length : tie.Need-same-length
-same-length c = search needs
-
-same-length-2 : tie.Need-same-length-2
-same-length-2 c = search needs
-
 returns : tie.Need-returns
 unfolding phandle phandleBlob phandleStrings phandleTable
 returns c =
@@ -51,18 +39,6 @@ slice-write-phandles c = let f = went c in omega (arith, f .room, f .phandles .w
 add-recorded : tie.Need-add-recorded
 add-recorded c = let f = went c in omega (arith, f .room, f .phandles .small)
 
-put-phandle-requires : tie.Need-put-phandle-requires
-put-phandle-requires c κs = search needs
-
-same-length-3 : tie.Need-same-length-3
-same-length-3 c = search needs
-
-same-length-4 : tie.Need-same-length-4
-same-length-4 c = search needs
-
-same-length-5 : tie.Need-same-length-5
-same-length-5 c = search needs
-
 returns-2 : tie.Need-returns-2
 unfolding recorded phandle phandleBlob phandleStrings phandleTable
 returns-2 c =
@@ -80,16 +56,10 @@ pub property-phandle-spec : {M : Type 1} → statement M
 property-phandle-spec =
     tie.close
     (tie.spec
-    record-tests-requires
-    accepted-requires
-    same-length
-    same-length-2
+    (λ c κs. search needs) (λ c κs. search needs) (λ c. search needs) (λ c. search needs)
     returns
     mul-phandles
     slice-write-phandles
     add-recorded
-    put-phandle-requires
-    same-length-3
-    same-length-4
-    same-length-5
+    (λ c κs. search needs) (λ c. search needs) (λ c. search needs) (λ c. search needs)
     returns-2)

@@ -47,18 +47,6 @@ passed-6 : (c : tie.Else2) → Passed 6 (c .before .before .before .before .befo
 unfolding recordRows stringsRows blobRows aloneRows
 passed-6 c = passed-5 (c .before .before) ∙ skip _ _ (sym (c .before .is-recorded .ensures) ∙ c .if2 .left)
 
-strings-tests-requires : tie.Need-strings-tests-requires
-strings-tests-requires c κs = search needs
-
-misfit-phandles-requires : tie.Need-misfit-phandles-requires
-misfit-phandles-requires c κs = search needs
-
-or-misfit-requires : tie.Need-or-misfit-requires
-or-misfit-requires c κs = search needs
-
-accepted-requires : tie.Need-accepted-requires
-accepted-requires c κs = search needs
-
 returns : tie.Need-returns
 unfolding recordAnswer recordRows stringsRows blobRows aloneRows
 returns c =
@@ -83,10 +71,7 @@ pub record-tests-spec : {M : Type 1} → statement M
 record-tests-spec =
     tie.close
     (tie.spec
-    strings-tests-requires
-    misfit-phandles-requires
-    or-misfit-requires
-    accepted-requires
+    (λ c κs. search needs) (λ c κs. search needs) (λ c κs. search needs) (λ c κs. search needs)
     returns
     is-recorded-requires
     returns-2

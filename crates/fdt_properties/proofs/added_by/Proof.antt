@@ -7,18 +7,6 @@ use borrow.Author.Needs.{needs}
 use Rattle.fdt_properties.proofs.added_by.Statement.{statement}
 use Rattle.fdt_properties.proofs.added_by.Tie as tie
 
-enum-told : tie.Need-enum-told
-enum-told c = search needs
-
-enum-told-2 : tie.Need-enum-told-2
-enum-told-2 c = search needs
-
-add-result : tie.Need-add-result
-add-result c = search needs
-
-enum-told-3 : tie.Need-enum-told-3
-enum-told-3 c = search needs
-
 returns : tie.Need-returns
 unfolding added
 returns c = ap (λ (p : Interned). added p (c .before .before .args .name .now)) (sym (c .enum-told .given .1))
@@ -33,4 +21,4 @@ returns-3 c = ap (λ (p : Interned). added p (c .before .before .args .name .now
 
 pub added-by-spec : {M : Type 1} → statement M
 added-by-spec =
-    tie.close (tie.spec enum-told enum-told-2 add-result enum-told-3 returns returns-2 returns-3)
+    tie.close (tie.spec (λ c. search needs) (λ c. search needs) (λ c. search needs) (λ c. search needs) returns returns-2 returns-3)

@@ -8,9 +8,6 @@ use native.Mathlib.Omega.{arith}
 use Rattle.fdt_properties.proofs.after_property.Statement.{statement}
 use Rattle.fdt_properties.proofs.after_property.Tie as tie
 
-padding-of-requires : tie.Need-padding-of-requires
-padding-of-requires c κs = search needs
-
 add-after : tie.Need-add-after
 unfolding roundUp
 add-after c = omega (arith, c .padding-of .ensures, c .before .pre .0)
@@ -23,9 +20,6 @@ add-after-3 : tie.Need-add-after-3
 unfolding roundUp
 add-after-3 c = omega (arith, c .before .padding-of .ensures, c .before .before .pre .0)
 
-add-after-4 : tie.Need-add-after-4
-add-after-4 c = search needs
-
 returns : tie.Need-returns
 unfolding roundUp
 returns c =
@@ -34,4 +28,4 @@ returns c =
 
 pub after-property-spec : {M : Type 1} → statement M
 after-property-spec =
-    tie.close (tie.spec padding-of-requires add-after add-after-2 add-after-3 add-after-4 returns)
+    tie.close (tie.spec (λ c κs. search needs) add-after add-after-2 add-after-3 (λ c. search needs) returns)

@@ -5,15 +5,6 @@ use borrow.Author.Needs.{needs}
 use Rattle.fdt_properties.proofs.is_full.Statement.{statement}
 use Rattle.fdt_properties.proofs.is_full.Tie as tie
 
-enum-told : tie.Need-enum-told
-enum-told c = search needs
-
-enum-told-2 : tie.Need-enum-told-2
-enum-told-2 c = search needs
-
-enum-told-3 : tie.Need-enum-told-3
-enum-told-3 c = search needs
-
 returns : tie.Need-returns
 unfolding isFull
 returns c = ap isFull (sym (c .enum-told .given .1))
@@ -27,4 +18,4 @@ unfolding isFull
 returns-3 c = ap isFull (sym (c .enum-told3 .given .1))
 
 pub is-full-spec : {M : Type 1} → statement M
-is-full-spec = tie.close (tie.spec enum-told enum-told-2 enum-told-3 returns returns-2 returns-3)
+is-full-spec = tie.close (tie.spec (λ c. search needs) (λ c. search needs) (λ c. search needs) returns returns-2 returns-3)

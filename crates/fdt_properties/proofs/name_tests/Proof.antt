@@ -53,38 +53,23 @@ unfolding roundUp
 room c =
     let a = c .before .before .before .before .before .before .before .before .before .args in sym (c .no-room .ensures ∙ ap (λ (n : ℕ). noRoom (a .w) (12 + (a .len + n))) (c .before .padding-of .ensures))
 
-has-zero-requires : tie.Need-has-zero-requires
-has-zero-requires c κs = search needs
-
 returns : tie.Need-returns
 unfolding nameRows
 returns c = λ strings e. sym (hit _ _ (sym (c .before .has-zero .ensures) ∙ c .if1 .taken))
-
-property-name-valid-requires : tie.Need-property-name-valid-requires
-property-name-valid-requires c κs = search needs
 
 returns-2 : tie.Need-returns-2
 unfolding nameRows
 returns-2 c = λ strings e. sym (passed-1 (c .before .before) strings ∙ hit _ _ (ap not (sym (c .before .property-name-valid .ensures)) ∙ c .if2 .taken))
 
-is-full-requires : tie.Need-is-full-requires
-is-full-requires c κs = search needs
-
 returns-3 : tie.Need-returns-3
 unfolding nameRows
 returns-3 c = λ strings e. sym (passed-2 (c .before .before) strings ∙ hit _ _ (full (c .before) strings e ∙ c .if3 .taken))
-
-padding-of-requires : tie.Need-padding-of-requires
-padding-of-requires c κs = search needs
 
 add-no-room : tie.Need-add-no-room
 add-no-room c = let s = c .before .before .before .before .before .before .before .before in omega (arith, padding-small 4 (s .args .len) (lit< tt), c .padding-of .ensures, s .pre)
 
 add-no-room-2 : tie.Need-add-no-room-2
 add-no-room-2 c = let s = c .before .before .before .before .before .before .before .before in omega (arith, padding-small 4 (s .args .len) (lit< tt), c .padding-of .ensures, s .pre)
-
-no-room-requires : tie.Need-no-room-requires
-no-room-requires c κs = search needs
 
 returns-4 : tie.Need-returns-4
 unfolding nameRows
@@ -98,15 +83,15 @@ pub name-tests-spec : {M : Type 1} → statement M
 name-tests-spec =
     tie.close
     (tie.spec
-    has-zero-requires
+    (λ c κs. search needs)
     returns
-    property-name-valid-requires
+    (λ c κs. search needs)
     returns-2
-    is-full-requires
+    (λ c κs. search needs)
     returns-3
-    padding-of-requires
+    (λ c κs. search needs)
     add-no-room
     add-no-room-2
-    no-room-requires
+    (λ c κs. search needs)
     returns-4
     returns-5)

@@ -9,12 +9,9 @@ use Rattle.fdt_properties.proofs.place_of.Tie as tie
 slice-aggregate-intern-string : tie.Need-slice-aggregate-intern-string
 slice-aggregate-intern-string c = sym (length-take-le _ _ (c .before .before .before .pre))
 
-intern-string-requires : tie.Need-intern-string-requires
-intern-string-requires c κs = search needs
-
 returns : tie.Need-returns
 unfolding placeOf
 returns c = c .intern-string .ensures
 
 pub place-of-spec : {M : Type 1} → statement M
-place-of-spec = tie.close (tie.spec slice-aggregate-intern-string intern-string-requires returns)
+place-of-spec = tie.close (tie.spec slice-aggregate-intern-string (λ c κs. search needs) returns)

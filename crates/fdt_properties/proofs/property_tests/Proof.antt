@@ -25,18 +25,6 @@ fits c =
     let a = s .args in
     state-fits (a .w) (a .lent) (a .strings .now) (value s) (c .before .before .before .before .misfit-value .ensures) (c .before .before .before .zero-value .ensures) (c .before .before .state-tests .ensures) (passed c)
 
-misfit-value-requires : tie.Need-misfit-value-requires
-misfit-value-requires c κs = search needs
-
-zero-value-requires : tie.Need-zero-value-requires
-zero-value-requires c κs = search needs
-
-state-tests-requires : tie.Need-state-tests-requires
-state-tests-requires c κs = search needs
-
-accepted-requires : tie.Need-accepted-requires
-accepted-requires c κs = search needs
-
 returns : tie.Need-returns
 returns c =
     let s = c .before .before .before .before .before .before .before .before .before .before .before in
@@ -47,9 +35,6 @@ returns c =
       placed = λ h. absurd (true≢false (sym h ∙ t));
       sized = λ h. absurd (true≢false (sym h ∙ t));
     }
-
-value-length-requires : tie.Need-value-length-requires
-value-length-requires c κs = search needs
 
 place-of-requires : tie.Need-place-of-requires
 place-of-requires c κs = let f = fits (c .before) .names in omega (arith, f .used, f .within)
@@ -74,12 +59,9 @@ pub property-tests-spec : {M : Type 1} → statement M
 property-tests-spec =
     tie.close
     (tie.spec
-    misfit-value-requires
-    zero-value-requires
-    state-tests-requires
-    accepted-requires
+    (λ c κs. search needs) (λ c κs. search needs) (λ c κs. search needs) (λ c κs. search needs)
     returns
-    value-length-requires
+    (λ c κs. search needs)
     place-of-requires
     name-tests-requires
     returns-2)

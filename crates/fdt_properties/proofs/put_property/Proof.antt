@@ -7,37 +7,13 @@ use native.Mathlib.Omega.{arith}
 use Rattle.fdt_properties.proofs.put_property.Statement.{statement}
 use Rattle.fdt_properties.proofs.put_property.Tie as tie
 
-cast-t15 : tie.Need-cast-t15
-cast-t15 c = search needs
-
-cast-t16 : tie.Need-cast-t16
-cast-t16 c = search needs
-
-slice-aggregate-cells-at : tie.Need-slice-aggregate-cells-at
-slice-aggregate-cells-at c = search needs
-
-cells-at-requires : tie.Need-cells-at-requires
-cells-at-requires c κs = search needs
-
-add-at : tie.Need-add-at
-add-at c = search needs
-
 value-at-requires : tie.Need-value-at-requires
 unfolding roundUp
 value-at-requires c κs = (c .before .before .before .before .before .before .before .before .before .before .before .pre .value, omega (arith, c .before .before .before .before .before .before .before .before .before .before .before .pre .sized, c .before .before .before .before .before .before .before .before .before .before .before .pre .room))
 
-add-zeros-at : tie.Need-add-zeros-at
-add-zeros-at c = search needs
-
-padding-of-requires : tie.Need-padding-of-requires
-padding-of-requires c κs = search needs
-
 zeros-at-requires : tie.Need-zeros-at-requires
 unfolding roundUp
 zeros-at-requires c κs = omega (arith, c .padding-of .ensures, c .before .before .before .before .before .before .before .before .before .before .before .before .before .before .before .before .pre .room)
-
-same-length : tie.Need-same-length
-same-length c = search needs
 
 returns : tie.Need-returns
 returns c =
@@ -49,14 +25,9 @@ pub put-property-spec : {M : Type 1} → statement M
 put-property-spec =
     tie.close
     (tie.spec
-    cast-t15
-    cast-t16
-    slice-aggregate-cells-at
-    cells-at-requires
-    add-at
+    (λ c. search needs) (λ c. search needs) (λ c. search needs) (λ c κs. search needs) (λ c. search needs)
     value-at-requires
-    add-zeros-at
-    padding-of-requires
+    (λ c. search needs) (λ c κs. search needs)
     zeros-at-requires
-    same-length
+    (λ c. search needs)
     returns)

@@ -37,15 +37,6 @@ passed-7 : (c : tie.Else3) → Passed 7 (c .before .before .before .before .befo
 unfolding stateRows stringsRows blobRows aloneRows
 passed-7 c = passed-6 (c .before) ∙ skip _ _ (c .if3 .left)
 
-strings-tests-requires : tie.Need-strings-tests-requires
-strings-tests-requires c κs = search needs
-
-or-misfit-requires : tie.Need-or-misfit-requires
-or-misfit-requires c κs = search needs
-
-accepted-requires : tie.Need-accepted-requires
-accepted-requires c κs = search needs
-
 returns : tie.Need-returns
 unfolding stateRows stringsRows blobRows aloneRows
 returns c =
@@ -71,9 +62,7 @@ pub state-tests-spec : {M : Type 1} → statement M
 state-tests-spec =
     tie.close
     (tie.spec
-    strings-tests-requires
-    or-misfit-requires
-    accepted-requires
+    (λ c κs. search needs) (λ c κs. search needs) (λ c κs. search needs)
     returns
     returns-2
     returns-3

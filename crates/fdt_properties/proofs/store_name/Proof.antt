@@ -8,16 +8,10 @@ use borrow.Author.Needs.{needs}
 use Rattle.fdt_properties.proofs.store_name.Statement.{statement}
 use Rattle.fdt_properties.proofs.store_name.Tie as tie
 
-enum-known-place : tie.Need-enum-known-place
-enum-known-place c = search needs
-
 store-string-requires : tie.Need-store-string-requires
 unfolding PlaceFits
 store-string-requires c κs =
     let a = c .before .before .before .before .before .before .args in subst (λ (p : Interned). PlaceFits p (a .name .now) (a .strings .now)) (c .before .before .place .given .1) (c .before .before .before .before .before .before .pre)
-
-same-length : tie.Need-same-length
-same-length c = search needs
 
 returns : tie.Need-returns
 unfolding stored
@@ -30,4 +24,4 @@ returns-2 c = let a = c .before .before .before .args in sym (not-new (a .place)
 
 pub store-name-spec : {M : Type 1} → statement M
 store-name-spec =
-    tie.close (tie.spec enum-known-place store-string-requires same-length returns returns-2)
+    tie.close (tie.spec (λ c. search needs) store-string-requires (λ c. search needs) returns returns-2)

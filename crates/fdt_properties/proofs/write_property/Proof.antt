@@ -28,15 +28,6 @@ went :
     AcceptedProperty (a .w) (length (a .blob .now)) (a .strings .now) (a .name .now) (valueOf (a .kind) (a .bytes .now) (a .cells .now) (a .wide .now) (a .lengths .now)) (t .place) (t .len)
 went c = accepted-property _ _ _ _ _ _ _ (c .before .before .property-tests .ensures) (sym (c .before .accepted .ensures) ∙ not-false _ (c .if1 .left))
 
-property-tests-requires : tie.Need-property-tests-requires
-property-tests-requires c κs = search needs
-
-accepted-requires : tie.Need-accepted-requires
-accepted-requires c κs = search needs
-
-same-length : tie.Need-same-length
-same-length c = search needs
-
 returns : tie.Need-returns
 unfolding property propertyBlob propertyStrings
 returns c =
@@ -48,29 +39,17 @@ returns c =
       names = left-refused _ _ told _ _ t;
     }
 
-added-by-requires : tie.Need-added-by-requires
-added-by-requires c κs = search needs
-
 after-property-requires : tie.Need-after-property-requires
 after-property-requires c κs = let f = went (c .before) in (f .blob, omega (arith, f .names, c .added-by .ensures))
 
 store-name-requires : tie.Need-store-name-requires
 store-name-requires c κs = went (c .before .before .before) .fits
 
-offset-of-requires : tie.Need-offset-of-requires
-offset-of-requires c κs = search needs
-
 put-property-requires : tie.Need-put-property-requires
 put-property-requires c κs =
     let a = c .before .before .before .before .before .before .before .before .before .before .before .before .before .before .before .before .before .before .before .args in
     let t = c .before .before .before .before .before .before .before .before .before .before .property-tests .result in
-    subst (λ (n : ℕ). PutFits (a .w .«blob_used») n (t .len) (length (a .blob .now)) (valueOf (a .kind) (a .bytes .now) (a .cells .now) (a .wide .now) (a .lengths .now))) (sym (c .offset-of .ensures)) (went (c .before .before .before .before .before .before .before .before) .put)
-
-same-length-2 : tie.Need-same-length-2
-same-length-2 c = search needs
-
-same-length-3 : tie.Need-same-length-3
-same-length-3 c = search needs
+    subst (λ (n : ℕ). PutFits (a .w .«blob_used») n (t .len) (length (a .blob .now)) (valueOf (a .kind) (a .bytes .now) (a .cells .now) (a .wide .now) (a .lengths .now))) (sym (c .place-offset .ensures)) (went (c .before .before .before .before .before .before .before .before) .put)
 
 returns-2 : tie.Need-returns-2
 unfolding property propertyBlob propertyStrings
@@ -91,7 +70,7 @@ returns-2 c =
           ∙ outcome-accepted _ _ told _ _ t;
       bytes =
           c .before .before .put-property .ensures
-          ∙ ap (λ (n : ℕ). splice (w .«blob_used») (propertyBytes n value) (a .blob .now)) (c .before .before .before .offset-of .ensures)
+          ∙ ap (λ (n : ℕ). splice (w .«blob_used») (propertyBytes n value) (a .blob .now)) (c .before .before .before .place-offset .ensures)
           ∙ ap (λ (l : List ℕ). splice (w .«blob_used») l (a .blob .now)) (f .bytes)
           ∙ left-accepted _ _ told _ _ t;
       names =
@@ -104,15 +83,12 @@ pub write-property-spec : {M : Type 1} → statement M
 write-property-spec =
     tie.close
     (tie.spec
-    property-tests-requires
-    accepted-requires
-    same-length
+    (λ c κs. search needs) (λ c κs. search needs) (λ c. search needs)
     returns
-    added-by-requires
+    (λ c κs. search needs)
     after-property-requires
     store-name-requires
-    offset-of-requires
+    (λ c κs. search needs)
     put-property-requires
-    same-length-2
-    same-length-3
+    (λ c. search needs) (λ c. search needs)
     returns-2)

@@ -19,9 +19,6 @@ abbrev μ-loop : tie.MeasureT-loop
 loop-holds : tie.Need-loop-holds Inv-loop μ-loop
 loop-holds c = (c .before .pre, (omega arith, from-0 _))
 
-zero-pair-requires : tie.Need-zero-pair-requires Inv-loop μ-loop
-zero-pair-requires c κs = omega arith
-
 returns : tie.Need-returns Inv-loop μ-loop
 returns c =
     let loop = c .before .before .before .loop in
@@ -42,7 +39,7 @@ pairs-from-spec =
     Inv-loop
     μ-loop
     loop-holds
-    zero-pair-requires
+    (λ c κs. omega arith)
     returns
     (λ c. omega arith) (λ c. omega arith) (λ c. omega arith) (λ c. omega arith)
     loop-again

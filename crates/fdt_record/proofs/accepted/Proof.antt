@@ -6,9 +6,6 @@ use borrow.Author.Needs.{needs}
 use Rattle.fdt_record.proofs.accepted.Statement.{statement}
 use Rattle.fdt_record.proofs.accepted.Tie as tie
 
-enum-told : tie.Need-enum-told
-enum-told c = search needs
-
 returns : tie.Need-returns
 unfolding accepts
 returns c = ap accepts (sym (c .enum-told .given .1))
@@ -17,4 +14,4 @@ returns-2 : tie.Need-returns-2
 returns-2 c = sym (not-done _ (c .match .keys2))
 
 pub accepted-spec : {M : Type 1} → statement M
-accepted-spec = tie.close (tie.spec enum-told returns returns-2)
+accepted-spec = tie.close (tie.spec (λ c. search needs) returns returns-2)

@@ -10,9 +10,6 @@ returns : tie.Need-returns
 unfolding aloneRows
 returns c = sym (hit _ _ (c .if1 .taken))
 
-misfit-record-requires : tie.Need-misfit-record-requires
-misfit-record-requires c κs = search needs
-
 returns-2 : tie.Need-returns-2
 unfolding aloneRows
 returns-2 c =
@@ -24,4 +21,4 @@ returns-3 c =
     sym (skip _ _ (c .before .before .if1 .left) ∙ skip _ _ (sym (c .before .misfit-record .ensures) ∙ c .if2 .left) ∙ done)
 
 pub alone-tests-spec : {M : Type 1} → statement M
-alone-tests-spec = tie.close (tie.spec returns misfit-record-requires returns-2 returns-3)
+alone-tests-spec = tie.close (tie.spec returns (λ c κs. search needs) returns-2 returns-3)

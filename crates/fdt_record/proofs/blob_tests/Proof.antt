@@ -7,15 +7,6 @@ use borrow.Author.Needs.{needs}
 use Rattle.fdt_record.proofs.blob_tests.Statement.{statement}
 use Rattle.fdt_record.proofs.blob_tests.Tie as tie
 
-alone-tests-requires : tie.Need-alone-tests-requires
-alone-tests-requires c κs = search needs
-
-misfit-blob-requires : tie.Need-misfit-blob-requires
-misfit-blob-requires c κs = search needs
-
-or-misfit-requires : tie.Need-or-misfit-requires
-or-misfit-requires c κs = search needs
-
 returns : tie.Need-returns
 unfolding blobRows
 returns c =
@@ -23,4 +14,4 @@ returns c =
 
 pub blob-tests-spec : {M : Type 1} → statement M
 blob-tests-spec =
-    tie.close (tie.spec alone-tests-requires misfit-blob-requires or-misfit-requires returns)
+    tie.close (tie.spec (λ c κs. search needs) (λ c κs. search needs) (λ c κs. search needs) returns)

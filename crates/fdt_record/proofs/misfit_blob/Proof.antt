@@ -16,9 +16,6 @@ use Rattle.fdt_record.proofs.misfit_blob.Tie as tie
 fits : (c : tie.Else1) → let a = c .before .before .args in misfitRoom blobCeiling (a .lent) (a .w .«blob_room») (a .w .«blob_used») ≡ false
 fits c = sym (c .before .misfit-room .ensures) ∙ c .if1 .left
 
-misfit-room-requires : tie.Need-misfit-room-requires
-misfit-room-requires c κs = search needs
-
 returns : tie.Need-returns
 unfolding misfitBlob
 returns c = sym (simp (sym (c .before .misfit-room .ensures) ∙ c .if1 .taken))
@@ -41,4 +38,4 @@ returns-4 c =
     (same-test ((w .«blob_used» - 56) / 16) (w .reservations) (w .«blob_used») (structureStart (w .reservations)) (λ l. omega arith) (λ l. omega arith))
 
 pub misfit-blob-spec : {M : Type 1} → statement M
-misfit-blob-spec = tie.close (tie.spec misfit-room-requires returns returns-2 returns-3 returns-4)
+misfit-blob-spec = tie.close (tie.spec (λ c κs. search needs) returns returns-2 returns-3 returns-4)

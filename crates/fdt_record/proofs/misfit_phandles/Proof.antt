@@ -4,12 +4,9 @@ use borrow.Author.Needs.{needs}
 use Rattle.fdt_record.proofs.misfit_phandles.Statement.{statement}
 use Rattle.fdt_record.proofs.misfit_phandles.Tie as tie
 
-misfit-room-requires : tie.Need-misfit-room-requires
-misfit-room-requires c κs = search needs
-
 returns : tie.Need-returns
 unfolding misfitPhandles
 returns c = c .misfit-room .ensures
 
 pub misfit-phandles-spec : {M : Type 1} → statement M
-misfit-phandles-spec = tie.close (tie.spec misfit-room-requires returns)
+misfit-phandles-spec = tie.close (tie.spec (λ c κs. search needs) returns)

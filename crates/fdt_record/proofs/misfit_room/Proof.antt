@@ -5,9 +5,6 @@ use borrow.Author.Needs.{needs}
 use Rattle.fdt_record.proofs.misfit_room.Statement.{statement}
 use Rattle.fdt_record.proofs.misfit_room.Tie as tie
 
-usable-length-requires : tie.Need-usable-length-requires
-usable-length-requires c κs = search needs
-
 returns : tie.Need-returns
 unfolding misfitRoom
 returns c =
@@ -19,4 +16,4 @@ returns-2 c =
     let a = c .before .before .args in simp (usable-is (a .ceiling) (a .lent) (a .room) (c .before .usable-length .ensures) (c .if1 .left))
 
 pub misfit-room-spec : {M : Type 1} → statement M
-misfit-room-spec = tie.close (tie.spec usable-length-requires returns returns-2)
+misfit-room-spec = tie.close (tie.spec (λ c κs. search needs) returns returns-2)

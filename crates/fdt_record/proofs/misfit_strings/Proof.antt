@@ -15,9 +15,6 @@ use Rattle.fdt_record.proofs.misfit_strings.Tie as tie
 fits : (c : tie.Else1) → let a = c .before .before .before .args in misfitRoom stringsCeiling (length (a .strings .now)) (a .w .«strings_room») (a .w .«strings_used») ≡ false
 fits c = sym (c .before .misfit-room .ensures) ∙ c .if1 .left
 
-misfit-room-requires : tie.Need-misfit-room-requires
-misfit-room-requires c κs = search needs
-
 returns : tie.Need-returns
 unfolding misfitStrings
 returns c = sym (simp (sym (c .before .misfit-room .ensures) ∙ c .if1 .taken))
@@ -25,9 +22,6 @@ returns c = sym (simp (sym (c .before .misfit-room .ensures) ∙ c .if1 .taken))
 returns-2 : tie.Need-returns-2
 unfolding misfitStrings
 returns-2 c = let w = c .before .before .before .before .args .w in simp (fits (c .before), eq-eqb (w .«strings_used») 0 (c .if2 .taken))
-
-sub-last : tie.Need-sub-last
-sub-last c = search needs
 
 shared-slice-read-result : tie.Need-shared-slice-read-result
 shared-slice-read-result c = let f = fit-room _ _ _ _ (fits (c .before .before)) in omega (arith, f .used, f .within)
@@ -38,4 +32,4 @@ returns-3 c = let w = c .before .before .before .before .before .args .w in simp
 
 pub misfit-strings-spec : {M : Type 1} → statement M
 misfit-strings-spec =
-    tie.close (tie.spec misfit-room-requires returns returns-2 sub-last shared-slice-read-result returns-3)
+    tie.close (tie.spec (λ c κs. search needs) returns returns-2 (λ c. search needs) shared-slice-read-result returns-3)

@@ -5,9 +5,6 @@ use borrow.Author.Tests.{not-true, not-false}
 use Rattle.fdt_record.proofs.or_misfit.Statement.{statement}
 use Rattle.fdt_record.proofs.or_misfit.Tie as tie
 
-accepted-requires : tie.Need-accepted-requires
-accepted-requires c κs = search needs
-
 returns : tie.Need-returns
 returns c = sym (simp (sym (c .before .accepted .ensures) ∙ not-true _ (c .if1 .taken)))
 
@@ -18,4 +15,4 @@ returns-3 : tie.Need-returns-3
 returns-3 c = sym (simp (sym (c .before .before .accepted .ensures) ∙ not-false _ (c .before .if1 .left), c .if2 .left))
 
 pub or-misfit-spec : {M : Type 1} → statement M
-or-misfit-spec = tie.close (tie.spec accepted-requires returns returns-2 returns-3)
+or-misfit-spec = tie.close (tie.spec (λ c κs. search needs) returns returns-2 returns-3)

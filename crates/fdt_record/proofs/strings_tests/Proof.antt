@@ -7,15 +7,6 @@ use borrow.Author.Needs.{needs}
 use Rattle.fdt_record.proofs.strings_tests.Statement.{statement}
 use Rattle.fdt_record.proofs.strings_tests.Tie as tie
 
-blob-tests-requires : tie.Need-blob-tests-requires
-blob-tests-requires c κs = search needs
-
-misfit-strings-requires : tie.Need-misfit-strings-requires
-misfit-strings-requires c κs = search needs
-
-or-misfit-requires : tie.Need-or-misfit-requires
-or-misfit-requires c κs = search needs
-
 returns : tie.Need-returns
 unfolding stringsRows
 returns c =
@@ -23,4 +14,4 @@ returns c =
 
 pub strings-tests-spec : {M : Type 1} → statement M
 strings-tests-spec =
-    tie.close (tie.spec blob-tests-requires misfit-strings-requires or-misfit-requires returns)
+    tie.close (tie.spec (λ c κs. search needs) (λ c κs. search needs) (λ c κs. search needs) returns)

@@ -32,26 +32,8 @@ tried c = meets-entries _ _ _ _ _ _ (c .share-address .ensures) (c .before .befo
 pairs-holds : tie.Need-pairs-holds Inv-loop μ-loop Inv-pairs μ-pairs
 pairs-holds c = (omega arith, refl, λ k h. absurd (omega arith))
 
-entry-at-requires : tie.Need-entry-at-requires Inv-loop μ-loop Inv-pairs μ-pairs
-entry-at-requires c κs = omega arith
-
-add-j : tie.Need-add-j Inv-loop μ-loop Inv-pairs μ-pairs
-add-j c = omega arith
-
 loop-holds : tie.Need-loop-holds Inv-loop μ-loop Inv-pairs μ-pairs
 loop-holds c = (omega arith, omega arith, c .before .before .pairs .inv .1, clear-none (c .before .before .before .before .args .mem-reservations .now) (c .before .before .pairs .i))
-
-entry-at-requires-2 : tie.Need-entry-at-requires-2 Inv-loop μ-loop Inv-pairs μ-pairs
-entry-at-requires-2 c κs = omega arith
-
-share-address-requires : tie.Need-share-address-requires Inv-loop μ-loop Inv-pairs μ-pairs
-share-address-requires c κs = search needs
-
-add-j-2 : tie.Need-add-j-2 Inv-loop μ-loop Inv-pairs μ-pairs
-add-j-2 c = omega arith
-
-loop-less : tie.Need-loop-less Inv-loop μ-loop Inv-pairs μ-pairs
-loop-less c = omega arith
 
 loop-again : tie.Need-loop-again Inv-loop μ-loop Inv-pairs μ-pairs
 loop-again c =
@@ -61,12 +43,6 @@ loop-again c =
       l .inv .2,
       clear-more (c .before .before .before .before .before .before .before .before .before .args .mem-reservations .now) (c .before .before .before .before .before .before .before .pairs .i) (l .j) (l .inv .3) (sym (tried (c .before)) ∙ c .if1 .left),
     )
-
-add-i : tie.Need-add-i Inv-loop μ-loop Inv-pairs μ-pairs
-add-i c = omega arith
-
-pairs-less : tie.Need-pairs-less Inv-loop μ-loop Inv-pairs μ-pairs
-pairs-less c = omega arith
 
 pairs-again : tie.Need-pairs-again Inv-loop μ-loop Inv-pairs μ-pairs
 pairs-again c =
@@ -101,16 +77,11 @@ check-overlapping-spec =
     Inv-pairs
     μ-pairs
     pairs-holds
-    entry-at-requires
-    add-j
+    (λ c κs. omega arith) (λ c. omega arith)
     loop-holds
-    entry-at-requires-2
-    share-address-requires
-    add-j-2
-    loop-less
+    (λ c κs. omega arith) (λ c κs. search needs) (λ c. omega arith) (λ c. omega arith)
     loop-again
-    add-i
-    pairs-less
+    (λ c. omega arith) (λ c. omega arith)
     pairs-again
     returns
     returns-2)

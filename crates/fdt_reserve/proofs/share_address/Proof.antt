@@ -24,9 +24,6 @@ returns-3 c =
     let p = c .before .before .before .before .before .args .other in
     sym (share-comm _ _ _ _ ∙ share-empty (p .address) (p .size) (o .address) (o .size) (omega arith) (c .if3 .taken))
 
-sub-result : tie.Need-sub-result
-sub-result c = search needs
-
 returns-4 : tie.Need-returns-4
 returns-4 c =
     let o = c .before .before .before .before .before .before .before .before .args .one in
@@ -34,4 +31,4 @@ returns-4 c =
     sym (share-comm _ _ _ _ ∙ share-later (p .address) (p .size) (o .address) (o .size) (omega arith) (c .before .before .before .if3 .left))
 
 pub share-address-spec : {M : Type 1} → statement M
-share-address-spec = tie.close (tie.spec returns returns-2 returns-3 sub-result returns-4)
+share-address-spec = tie.close (tie.spec returns returns-2 returns-3 (λ c. search needs) returns-4)

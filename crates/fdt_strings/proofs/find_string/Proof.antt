@@ -20,37 +20,16 @@ loop-holds : tie.Need-loop-holds Inv-loop μ-loop
 unfolding findString
 loop-holds c = (omega arith, refl)
 
-find-requires : tie.Need-find-requires Inv-loop μ-loop
-find-requires c κs = search needs
-
 returns : tie.Need-returns Inv-loop μ-loop
 returns c =
     let l = c .before .before .before .loop in
     sym (l .inv .1 ∙ first-none _ _ _ _ (c .before .find .ensures .0) (l .inv .0) (c .if1 .taken))
-
-sub-same : tie.Need-sub-same Inv-loop μ-loop
-sub-same c = search needs
-
-part-same-start : tie.Need-part-same-start Inv-loop μ-loop
-part-same-start c = search needs
-
-part-same-end : tie.Need-part-same-end Inv-loop μ-loop
-part-same-end c = search needs
-
-same-requires : tie.Need-same-requires Inv-loop μ-loop
-same-requires c κs = search needs
 
 returns-2 : tie.Need-returns-2 Inv-loop μ-loop
 returns-2 c =
     let l = c .before .before .before .before .before .before .loop in
     let f = c .before .before .before .before .find in
     sym (l .inv .1 ∙ first-here _ _ _ _ (f .ensures .0) (l .inv .0) (omega arith) (c .before .same .ensures .0 (c .if2 .taken)))
-
-add-start : tie.Need-add-start Inv-loop μ-loop
-add-start c = search needs
-
-loop-less : tie.Need-loop-less Inv-loop μ-loop
-loop-less c = search needs
 
 loop-again : tie.Need-loop-again Inv-loop μ-loop
 loop-again c =
@@ -68,14 +47,10 @@ find-string-spec =
     Inv-loop
     μ-loop
     loop-holds
-    find-requires
+    (λ c κs. search needs)
     returns
-    sub-same
-    part-same-start
-    part-same-end
-    same-requires
+    (λ c. search needs) (λ c. search needs) (λ c. search needs) (λ c κs. search needs)
     returns-2
-    add-start
-    loop-less
+    (λ c. search needs) (λ c. search needs)
     loop-again
     returns-3)

@@ -6,20 +6,8 @@ use Rattle.fdt_strings.proofs.Places.{interned-known, interned-new, int
 use Rattle.fdt_strings.proofs.intern_string.Statement.{statement}
 use Rattle.fdt_strings.proofs.intern_string.Tie as tie
 
-find-string-requires : tie.Need-find-string-requires
-find-string-requires c κs = search needs
-
-enum-known-offset : tie.Need-enum-known-offset
-enum-known-offset c = search needs
-
-enum-told : tie.Need-enum-told
-enum-told c = search needs
-
 returns : tie.Need-returns
 returns c = sym (interned-full _ _ _ (sym (c .before .before .before .find-string .ensures) ∙ c .before .enum-told .given .1) (omega arith))
-
-sub-if2 : tie.Need-sub-if2
-sub-if2 c = search needs
 
 returns-2 : tie.Need-returns-2
 returns-2 c = sym (interned-new _ _ _ (sym (c .before .before .before .before .find-string .ensures) ∙ c .before .before .enum-told .given .1) (omega arith))
@@ -34,11 +22,9 @@ pub intern-string-spec : {M : Type 1} → statement M
 intern-string-spec =
     tie.close
     (tie.spec
-    find-string-requires
-    enum-known-offset
-    enum-told
+    (λ c κs. search needs) (λ c. search needs) (λ c. search needs)
     returns
-    sub-if2
+    (λ c. search needs)
     returns-2
     returns-3
     returns-4)

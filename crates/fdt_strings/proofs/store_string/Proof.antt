@@ -9,29 +9,14 @@ use Rattle.fdt_strings.proofs.Places.{stored}
 use Rattle.fdt_strings.proofs.store_string.Statement.{statement}
 use Rattle.fdt_strings.proofs.store_string.Tie as tie
 
-sub-append-bytes : tie.Need-sub-append-bytes
-sub-append-bytes c = search needs
-
-part-append-bytes-start : tie.Need-part-append-bytes-start
-part-append-bytes-start c = search needs
-
-part-append-bytes-end : tie.Need-part-append-bytes-end
-part-append-bytes-end c = search needs
-
 append-bytes-requires : tie.Need-append-bytes-requires
 append-bytes-requires c κs = simp (length-take, length-drop) (omega (arith, length-entry (c .before .before .before .args .name .now)))
-
-add-end : tie.Need-add-end
-add-end c = search needs
 
 slice-write-strings : tie.Need-slice-write-strings
 slice-write-strings c =
     let a = c .before .before .before .before .before .before .args in
     let r = c .before .before .append-bytes in
     omega (arith, length-entry (a .name .now), same-len-mid (a .offset) (length (a .strings .now) - a .offset) (a .strings .now) (r .last .0) (r .kept .0))
-
-same-length : tie.Need-same-length
-same-length c = search needs
 
 returns : tie.Need-returns
 returns c = stored _ _ _ _ (c .before .before .before .before .before .before .pre) (c .before .before .append-bytes .ensures)
@@ -40,11 +25,9 @@ pub store-string-spec : {M : Type 1} → statement M
 store-string-spec =
     tie.close
     (tie.spec
-    sub-append-bytes
-    part-append-bytes-start
-    part-append-bytes-end
+    (λ c. search needs) (λ c. search needs) (λ c. search needs)
     append-bytes-requires
-    add-end
+    (λ c. search needs)
     slice-write-strings
-    same-length
+    (λ c. search needs)
     returns)

@@ -15,20 +15,8 @@ abbrev μ-loop : tie.MeasureT-loop
 loop-holds : tie.Need-loop-holds Inv-loop μ-loop
 loop-holds c = written-none
 
-mul-end : tie.Need-mul-end Inv-loop μ-loop
-mul-end c = omega arith
-
-shared-slice-read-end : tie.Need-shared-slice-read-end Inv-loop μ-loop
-shared-slice-read-end c = omega arith
-
 add-end : tie.Need-add-end Inv-loop μ-loop
 add-end c = omega (arith, next-within (c .before .before .before .before .before .before .pre) (c .before .before .loop .inv) (c .before .loop-test .taken))
-
-sub-store-string : tie.Need-sub-store-string Inv-loop μ-loop
-sub-store-string c = omega arith
-
-part-store-string-start : tie.Need-part-store-string-start Inv-loop μ-loop
-part-store-string-start c = omega arith
 
 part-store-string-end : tie.Need-part-store-string-end Inv-loop μ-loop
 part-store-string-end c = next-within (c .before .before .before .before .before .before .before .pre) (c .before .before .before .loop .inv) (c .before .before .loop-test .taken)
@@ -36,20 +24,11 @@ part-store-string-end c = next-within (c .before .before .before .before .before
 store-string-requires : tie.Need-store-string-requires Inv-loop μ-loop
 store-string-requires c κs = omega (arith, next-fits (c .before .before .before .before .before .before .before .before .pre) (c .before .before .before .before .loop .inv) (c .before .before .before .loop-test .taken), length-next (c .before .before .before .before .before .before .before .before .pre) (c .before .before .before .before .loop .inv) (c .before .before .before .loop-test .taken))
 
-sub-to : tie.Need-sub-to Inv-loop μ-loop
-sub-to c = omega arith
-
 add-to : tie.Need-add-to Inv-loop μ-loop
 add-to c = omega (arith, next-fits (c .before .before .before .before .before .before .before .before .before .before .before .pre) (c .before .before .before .before .before .before .before .loop .inv) (c .before .before .before .before .before .before .loop-test .taken))
 
 add-to-2 : tie.Need-add-to-2 Inv-loop μ-loop
 add-to-2 c = omega (arith, next-fits (c .before .before .before .before .before .before .before .before .before .before .before .pre) (c .before .before .before .before .before .before .before .loop .inv) (c .before .before .before .before .before .before .loop-test .taken))
-
-add-i : tie.Need-add-i Inv-loop μ-loop
-add-i c = omega arith
-
-loop-less : tie.Need-loop-less Inv-loop μ-loop
-loop-less c = omega arith
 
 loop-again : tie.Need-loop-again Inv-loop μ-loop
 loop-again c = written-more (c .before .before .before .before .before .before .before .before .before .before .before .pre) (c .before .before .before .before .before .before .before .loop .inv) (c .before .before .before .before .before .before .loop-test .taken) (c .before .before .store-string .ensures)
@@ -67,18 +46,15 @@ texts-at-spec =
     Inv-loop
     μ-loop
     loop-holds
-    mul-end
-    shared-slice-read-end
+    (λ c. omega arith) (λ c. omega arith)
     add-end
-    sub-store-string
-    part-store-string-start
+    (λ c. omega arith) (λ c. omega arith)
     part-store-string-end
     store-string-requires
-    sub-to
+    (λ c. omega arith)
     add-to
     add-to-2
-    add-i
-    loop-less
+    (λ c. omega arith) (λ c. omega arith)
     loop-again
     same-length
     returns)

@@ -14,9 +14,6 @@ unfolding reserved invalid
 returns c =
     let a = c .before .args in simp (eq-eqb (a .size) 0 (c .if1 .taken))
 
-sub-if2 : tie.Need-sub-if2
-sub-if2 c = search needs
-
 returns-2 : tie.Need-returns-2
 unfolding reserved invalid
 returns-2 c =
@@ -28,4 +25,4 @@ returns-3 c =
     let a = c .before .before .args in simp (ne-eqb (a .size) 0 (c .before .if1 .left), lt-leb (2 ^ 64) (a .address + a .size) (omega arith))
 
 pub new-spec : {M : Type 1} → statement M
-new-spec = tie.close (tie.spec returns sub-if2 returns-2 returns-3)
+new-spec = tie.close (tie.spec returns (λ c. search needs) returns-2 returns-3)

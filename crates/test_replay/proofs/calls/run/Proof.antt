@@ -4,18 +4,6 @@ use borrow.Author.Needs.{needs}
 use Rattle.test_replay.proofs.calls.run.Statement.{statement}
 use Rattle.test_replay.proofs.calls.run.Tie as tie
 
-begun-requires : tie.Need-begun-requires
-begun-requires c κs = search needs
-
-answered-requires : tie.Need-answered-requires
-answered-requires c κs = search needs
-
-alone-requires : tie.Need-alone-requires
-alone-requires c κs = search needs
-
-line-requires : tie.Need-line-requires
-line-requires c κs = search needs
-
 same-length : tie.Need-same-length
 same-length c = ⊎-elim (λ u. search needs) (λ u. search needs) (c .before .before .before .before .before .if1 .came)
 
@@ -25,18 +13,12 @@ same-length-2 c = ⊎-elim (λ u. search needs) (λ u. search needs) (c .before 
 same-length-3 : tie.Need-same-length-3
 same-length-3 c = ⊎-elim (λ u. search needs) (λ u. search needs) (c .before .before .before .before .before .if1 .came)
 
-returns : tie.Need-returns
-returns c = search needs
-
 pub run-spec : {M : Type 1} → statement M
 run-spec =
     tie.close
     (tie.spec
-    begun-requires
-    answered-requires
-    alone-requires
-    line-requires
+    (λ c κs. search needs) (λ c κs. search needs) (λ c κs. search needs) (λ c κs. search needs)
     same-length
     same-length-2
     same-length-3
-    returns)
+    (λ c. search needs))

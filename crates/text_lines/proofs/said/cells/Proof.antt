@@ -10,49 +10,11 @@ Inv-loop t from to led i₀ i = from ≤ i
 abbrev μ-loop : tie.MeasureT-loop
 μ-loop t from to led i₀ i = to - i
 
-loop-holds : tie.Need-loop-holds Inv-loop μ-loop
-loop-holds c = search needs
-
-returns : tie.Need-returns Inv-loop μ-loop
-returns c = search needs
-
-gap-requires : tie.Need-gap-requires Inv-loop μ-loop
-gap-requires c κs = search needs
-
-mul-cell : tie.Need-mul-cell Inv-loop μ-loop
-mul-cell c = search needs
-
-shared-slice-read-cell : tie.Need-shared-slice-read-cell Inv-loop μ-loop
-shared-slice-read-cell c = search needs
-
-cell-requires : tie.Need-cell-requires Inv-loop μ-loop
-cell-requires c κs = search needs
-
-add-i : tie.Need-add-i Inv-loop μ-loop
-add-i c = search needs
-
-loop-less : tie.Need-loop-less Inv-loop μ-loop
-loop-less c = search needs
-
-loop-again : tie.Need-loop-again Inv-loop μ-loop
-loop-again c = search needs
-
-returns-2 : tie.Need-returns-2 Inv-loop μ-loop
-returns-2 c = search needs
-
 pub cells-spec : {M : Type 1} → statement M
 cells-spec =
     tie.close
     (tie.spec
     Inv-loop
     μ-loop
-    loop-holds
-    returns
-    gap-requires
-    mul-cell
-    shared-slice-read-cell
-    cell-requires
-    add-i
-    loop-less
-    loop-again
-    returns-2)
+    (λ c. search needs) (λ c. search needs) (λ c κs. search needs) (λ c. search needs) (λ c. search needs)
+    (λ c κs. search needs) (λ c. search needs) (λ c. search needs) (λ c. search needs) (λ c. search needs))

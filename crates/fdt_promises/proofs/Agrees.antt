@@ -18,7 +18,7 @@ use Rattle.fdt_finish.specs.Finish.{finish, FinishOutcome}
 use Rattle.fdt_promises.specs.Calls.{Request, to-open, to-boot, to-begin, to-end, to-have, to-mark, to-finish, Desk, answer, after}
 
 -- an answer, and what lies on the desk
-pub record Step (c : Request) (s : Desk) (a : Answer) (w : Record) (blob strings phandles : List ℕ) : Type 0 where
+pub record Agrees (c : Request) (s : Desk) (a : Answer) (w : Record) (blob strings phandles : List ℕ) : Type 0 where
   pub answered : a ≡ answer c s
   pub left : record { writer = w; blob = blob; strings = strings; phandles = phandles } ≡ after c s
 
@@ -31,52 +31,52 @@ same-desk {w} {v} {b} {c} {t} {u} {p} {q} d e f g =
     ∙ ap (λ (x : List ℕ). record { writer = v; blob = c; strings = u; phandles = x }) g
 
 module _ (s : Desk) where
-  pub opening-step : {numbers : List ℕ} {r : Outcome} {b : List ℕ} → OpeningOutcome (s .blob) (length (s .strings)) (length (s .phandles)) numbers r b → Step (to-open numbers) s (r .answer) (r .after) b (s .strings) (s .phandles)
+  pub opening-agrees : {numbers : List ℕ} {r : Outcome} {b : List ℕ} → OpeningOutcome (s .blob) (length (s .strings)) (length (s .phandles)) numbers r b → Agrees (to-open numbers) s (r .answer) (r .after) b (s .strings) (s .phandles)
   unfolding answer after opening
-  opening-step p = record {
+  opening-agrees p = record {
     answered = ap (λ (o : Outcome). o .answer) (p .result);
     left = same-desk (ap (λ (o : Outcome). o .after) (p .result)) (p .bytes) refl refl;
   }
 
-  pub boot-step : {n : ℕ} {r : Outcome} → r ≡ boot (s .writer) n → Step (to-boot n) s (r .answer) (r .after) (s .blob) (s .strings) (s .phandles)
+  pub boot-agrees : {n : ℕ} {r : Outcome} → r ≡ boot (s .writer) n → Agrees (to-boot n) s (r .answer) (r .after) (s .blob) (s .strings) (s .phandles)
   unfolding answer after boot
-  boot-step p = record {
+  boot-agrees p = record {
     answered = ap (λ (o : Outcome). o .answer) p;
     left = same-desk (ap (λ (o : Outcome). o .after) p) refl refl refl;
   }
 
-  pub begin-step : {name : List ℕ} {r : Begun} {b : List ℕ} → BeginOutcome (s .writer) (s .blob) name r b → Step (to-begin name) s (r .answer) (r .after) b (s .strings) (s .phandles)
+  pub begin-agrees : {name : List ℕ} {r : Begun} {b : List ℕ} → BeginOutcome (s .writer) (s .blob) name r b → Agrees (to-begin name) s (r .answer) (r .after) b (s .strings) (s .phandles)
   unfolding answer after begin
-  begin-step p = record {
+  begin-agrees p = record {
     answered = ap (λ (o : Begun). o .answer) (p .result);
     left = same-desk (ap (λ (o : Begun). o .after) (p .result)) (p .bytes) refl refl;
   }
 
-  pub end-step : {handle : ℕ} {r : Outcome} {b : List ℕ} → EndOutcome (s .writer) (s .blob) handle r b → Step (to-end handle) s (r .answer) (r .after) b (s .strings) (s .phandles)
+  pub end-agrees : {handle : ℕ} {r : Outcome} {b : List ℕ} → EndOutcome (s .writer) (s .blob) handle r b → Agrees (to-end handle) s (r .answer) (r .after) b (s .strings) (s .phandles)
   unfolding answer after end
-  end-step p = record {
+  end-agrees p = record {
     answered = ap (λ (o : Outcome). o .answer) (p .result);
     left = same-desk (ap (λ (o : Outcome). o .after) (p .result)) (p .bytes) refl refl;
   }
 
   -- of every kind
-  pub property-step : {name : List ℕ} {v : Value} {r : Outcome} {b t : List ℕ} → PropertyOutcome (s .writer) (s .blob) (s .strings) name v r b t → Step (to-have name v) s (r .answer) (r .after) b t (s .phandles)
+  pub property-agrees : {name : List ℕ} {v : Value} {r : Outcome} {b t : List ℕ} → PropertyOutcome (s .writer) (s .blob) (s .strings) name v r b t → Agrees (to-have name v) s (r .answer) (r .after) b t (s .phandles)
   unfolding answer after property
-  property-step p = record {
+  property-agrees p = record {
     answered = ap (λ (o : Outcome). o .answer) (p .result);
     left = same-desk (ap (λ (o : Outcome). o .after) (p .result)) (p .bytes) (p .names) refl;
   }
 
-  pub phandle-step : {value : ℕ} {r : Outcome} {b t q : List ℕ} → PhandleOutcome (s .writer) (s .blob) (s .strings) (s .phandles) value r b t q → Step (to-mark value) s (r .answer) (r .after) b t q
+  pub phandle-agrees : {value : ℕ} {r : Outcome} {b t q : List ℕ} → PhandleOutcome (s .writer) (s .blob) (s .strings) (s .phandles) value r b t q → Agrees (to-mark value) s (r .answer) (r .after) b t q
   unfolding answer after
-  phandle-step p = record {
+  phandle-agrees p = record {
     answered = ap (λ (o : Outcome). o .answer) (p .result);
     left = same-desk (ap (λ (o : Outcome). o .after) (p .result)) (p .bytes) (p .names) (p .handles);
   }
 
-  pub finish-step : {r : Outcome} {b : List ℕ} → FinishOutcome (s .writer) (s .blob) (s .strings) r b → Step to-finish s (r .answer) (r .after) b (s .strings) (s .phandles)
+  pub finish-agrees : {r : Outcome} {b : List ℕ} → FinishOutcome (s .writer) (s .blob) (s .strings) r b → Agrees to-finish s (r .answer) (r .after) b (s .strings) (s .phandles)
   unfolding answer after finish
-  finish-step p = record {
+  finish-agrees p = record {
     answered = ap (λ (o : Outcome). o .answer) (p .result);
     left = same-desk (ap (λ (o : Outcome). o .after) (p .result)) (p .bytes) refl refl;
   }
