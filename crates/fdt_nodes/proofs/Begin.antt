@@ -42,7 +42,7 @@ put-begin used k name blob b₁ b₂ b₃ e₁ e₂ e₃ p room =
     let m : length (entry name) ≡ length name + 1 = length-entry name in
     let parts = begin-parts name in
     e₃ ∙ ap (splice (used + 4 + (length name + 1)) (zeros k)) (e₂ ∙ ap (splice (used + 4) (entry name)) e₁)
-    ∙ splice-three used (used + 4) (used + 4 + (length name + 1)) matches (entry name) (zeros k) blob (omega arith) (omega arith) (omega arith)
+    ∙ splice-three used (used + 4) (used + 4 + (length name + 1)) word (entry name) (zeros k) blob (omega arith) (omega arith) (omega arith)
     ∙ ap (λ (j : ℕ). splice used (word ++ (entry name ++ zeros j)) blob) (p ∙ ap (padding 4) (sym m))
 
 -- every answer of the rows is a refusal
