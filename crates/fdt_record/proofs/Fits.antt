@@ -11,7 +11,7 @@ use lib.ListN.{length, getD}
 use Rattle.fdt_header.specs.Header.{structureStart}
 use Rattle.fdt_record.specs.declared.Record.{Record}
 use Rattle.fdt_record.specs.Limits.{blobCeiling, stringsCeiling, phandlesCeiling, mostReservations, mostDepth, usable}
-use Rattle.fdt_record.specs.Misfits.{misfitRecord, misfitRoom, misfitBlob, misfitStrings, misfitPhandles, noRoom}
+use Rattle.fdt_record.specs.Misfits.{misfitRecord, misfitRoom, misfitBlob, misfitStrings, misfitPhandles, noRoom, overfull}
 
 -- neither of two tests
 pub neither : (a b : Bool) → (a || b) ≡ false → (a ≡ false) × (b ≡ false)
@@ -115,3 +115,8 @@ fit-phandles w lent = fit-room phandlesCeiling lent (w .«phandles_room») (w .�
 pub has-room : (w : Record) (bytes : ℕ) → noRoom w bytes ≡ false → w .«blob_used» + bytes ≤ w .«blob_room»
 unfolding noRoom
 has-room w bytes e = ltb-false (w .«blob_room») (w .«blob_used» + bytes) e
+
+-- a record that is not overfull is within its room
+pub not-overfull : (w : Record) → overfull w ≡ false → w .«blob_used» ≤ w .«blob_room»
+unfolding overfull
+not-overfull w e = ltb-false (w .«blob_room») (w .«blob_used») e

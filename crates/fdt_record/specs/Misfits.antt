@@ -36,3 +36,7 @@ misfitPhandles w lent = misfitRoom phandlesCeiling lent (w .«phandles_room») (
 -- used + bytes of this call exceeds usable length
 unfoldable pub noRoom : Record → ℕ → Bool
 noRoom w bytes = ltb (w .«blob_room») (w .«blob_used» + bytes)
+
+-- the used length exceeds the usable length: refusal 14, asked of the record that a call would leave
+unfoldable pub overfull : Record → Bool
+overfull w = ltb (w .«blob_room») (w .«blob_used»)

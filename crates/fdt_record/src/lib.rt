@@ -5,7 +5,7 @@ ghost use lib.ListN.{length};
 ghost use Rattle.fdt_record.specs.declared.Answer.the-variants.{Done, Misfit};
 ghost use Rattle.fdt_record.specs.Answers.{numberOf, accepts, upon};
 ghost use Rattle.fdt_record.specs.Limits.{usable};
-ghost use Rattle.fdt_record.specs.Misfits.{misfitRecord, misfitRoom, misfitBlob, misfitStrings, misfitPhandles, noRoom};
+ghost use Rattle.fdt_record.specs.Misfits.{misfitRecord, misfitRoom, misfitBlob, misfitStrings, misfitPhandles, noRoom, overfull};
 ghost use Rattle.fdt_record.specs.Rows.{first};
 ghost use Rattle.fdt_record.specs.Tests.{aloneRows, blobRows, stringsRows};
 
@@ -218,4 +218,11 @@ pub fn no_room(w: Record, bytes: usize) -> bool
         return true;
     }
     w.blob_room - w.blob_used < bytes
+}
+
+// Whether the used length exceeds the usable length, asked of the record that a call would leave.
+pub fn overfull(after: Record) -> bool
+    ensures { λ r. ⌜ r ≡ overfull after ⌝ }
+{
+    after.blob_room < after.blob_used
 }
