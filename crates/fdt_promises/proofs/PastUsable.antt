@@ -30,7 +30,7 @@ use Rattle.fdt_record.proofs.Fits.{fit-blob, FitStrings, fit-strings, fit-phand
 use Rattle.fdt_record.proofs.Rows.{NoneHolds, Refusals, exactly, refusals-more, append-same}
 use Rattle.fdt_properties.specs.Property.{placeOf, placeOffset, stored, written, stateRows, nameRows, propertyRows, propertyAnswer, propertyRecord, property, propertyBlob, propertyStrings}
 use Rattle.fdt_properties.proofs.Property.{state-refusals, PropertyFits, property-fits}
-use Rattle.fdt_properties.proofs.Agrees.{state-fits}
+use Rattle.fdt_properties.proofs.Steps.{state-fits}
 use Rattle.fdt_header.specs.Header.{headerSize, headerBytes}
 use Rattle.fdt_format.specs.Tokens.{beginBytes, propertyBytes, endBytes, finalBytes}
 use Rattle.fdt_header.proofs.HeaderBytes.{length-header}
