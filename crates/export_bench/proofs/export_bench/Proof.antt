@@ -13,36 +13,8 @@ Inv-loop calls text blob₀ strings₀ w₀ n i₀ blob strings w i = (i ≤ n) 
 abbrev μ-loop : tie.MeasureT-loop
 μ-loop calls text blob₀ strings₀ w₀ n i₀ blob strings w i = n - i
 
--- src/lib.rt:53:48
--- src/lib.rt:53:9
--- src/lib.rt:57:5
--- src/lib.rt:58:18
--- src/lib.rt:59:37
--- src/lib.rt:59:31
--- src/lib.rt:59:31
--- src/lib.rt:59:52
--- src/lib.rt:59:46
--- src/lib.rt:59:46
--- src/lib.rt:59:13
--- src/lib.rt:60:36
--- src/lib.rt:60:30
--- src/lib.rt:60:30
--- src/lib.rt:60:51
--- src/lib.rt:60:45
--- src/lib.rt:60:45
--- src/lib.rt:60:13
--- src/lib.rt:61:21
--- src/lib.rt:61:21
--- src/lib.rt:61:9
--- src/lib.rt:62:9
--- src/lib.rt:57:5
--- src/lib.rt:57:5
--- src/lib.rt:64:5
--- src/lib.rt:46:1
--- src/lib.rt:46:1
--- src/lib.rt:46:1
-pub fdt-bench-spec : {M : Type 1} → statement M
-fdt-bench-spec =
+pub export-bench-spec : {M : Type 1} → statement M
+export-bench-spec =
     tie.close
     (tie.spec
     Inv-loop
