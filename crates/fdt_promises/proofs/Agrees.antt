@@ -1,5 +1,5 @@
 -- The statement that each call's code is proved to meet gives the answer and the desk that runs are made of.
-use mathlib.Core.Path.{_≡_, refl, ap, _∙_}
+use mathlib.Core.Path.{_≡_, refl, ap}
 use mathlib.Core.List.{List}
 use Prim.Native.Nat.{ℕ}
 use lib.ListN.{length}
@@ -16,19 +16,12 @@ use Rattle.fdt_phandles.specs.Phandle.{PhandleOutcome}
 use Rattle.fdt_finish.specs.Boot.{boot}
 use Rattle.fdt_finish.specs.Finish.{finish, FinishOutcome}
 use Rattle.fdt_promises.specs.Calls.{Request, to-open, to-boot, to-begin, to-end, to-have, to-mark, to-finish, Desk, answer, after}
+use Rattle.fdt_promises.proofs.Desks.{same-desk}
 
 -- an answer, and what lies on the desk
 pub record Agrees (c : Request) (s : Desk) (a : Answer) (w : Record) (blob strings phandles : List ℕ) : Type 0 where
   pub answered : a ≡ answer c s
   pub left : record { writer = w; blob = blob; strings = strings; phandles = phandles } ≡ after c s
-
--- desks with the same record and buffers
-same-desk : {w v : Record} {b c t u p q : List ℕ} → w ≡ v → b ≡ c → t ≡ u → p ≡ q → _≡_ {A = Desk} (record { writer = w; blob = b; strings = t; phandles = p }) (record { writer = v; blob = c; strings = u; phandles = q })
-same-desk {w} {v} {b} {c} {t} {u} {p} {q} d e f g =
-    ap (λ (x : Record). record { writer = x; blob = b; strings = t; phandles = p }) d
-    ∙ ap (λ (x : List ℕ). record { writer = v; blob = x; strings = t; phandles = p }) e
-    ∙ ap (λ (x : List ℕ). record { writer = v; blob = c; strings = x; phandles = p }) f
-    ∙ ap (λ (x : List ℕ). record { writer = v; blob = c; strings = u; phandles = x }) g
 
 module _ (s : Desk) where
   pub opening-agrees : {numbers : List ℕ} {r : Outcome} {b : List ℕ} → OpeningOutcome (s .blob) (length (s .strings)) (length (s .phandles)) numbers r b → Agrees (to-open numbers) s (r .answer) (r .after) b (s .strings) (s .phandles)

@@ -1,28 +1,26 @@
 -- A run's description and its blob: what the desk holds at the end, the finish, and that the reading undoes it.
-use mathlib.Core.Path.{_≡_, refl, sym, ap, _∙_}
+use mathlib.Core.Path.{_≡_, sym, ap, _∙_}
 use mathlib.Core.Bool.{false}
 use mathlib.Core.List.{List, [], _∷_}
 use mathlib.Core.Logic.{_↔_}
-use mathlib.Core.Option.{Option, some, Option·some-injective}
-use Prim.Native.Nat.{ℕ, _+_, _%_, _<_, _^_}
-use native.Mathlib.Omega.{arith}
+use mathlib.Core.Option.{some, Option·some-injective}
+use Prim.Native.Nat.{ℕ, _+_, _<_, _^_}
 use lib.Dec.{lit<}
 use lib.ListN.{length}
 use Rattle.fdt_strings.specs.Entries.{joined}
 use Rattle.fdt_values.specs.Value.{Value, valueBytes}
 use Rattle.fdt_format.specs.Blob.{namesOf, structureBytes, eventsSize, blobFrom, blobOf, WellFormed}
-use Rattle.fdt_format.specs.Description.{_≔_, Nodes, Description}
-use Rattle.fdt_format.specs.Events.{Event, has, events, nodesOf}
+use Rattle.fdt_format.specs.Description.{_≔_, Description}
+use Rattle.fdt_format.specs.Events.{has}
 use Rattle.fdt_header.specs.Header.{structureStart}
 use Rattle.fdt_format.specs.Reading.{reading}
 use Rattle.fdt_format.proofs.ReadBack.{length-from, read-blob}
 use Rattle.fdt_format.proofs.Structure.{structure-size}
-use Rattle.fdt_record.specs.declared.Answer.the-variants.{Done}
 use Rattle.fdt_opening.specs.Opening.{count}
 use Rattle.fdt_opening.proofs.Opening.{OpeningFits, opened-fits}
 use Rattle.fdt_finish.proofs.Finishing.{finish-fits}
-use Rattle.fdt_promises.specs.Calls.{Request, to-open, to-have, to-finish, Desk, answer, after}
-use Rattle.fdt_promises.specs.Run.{phandlesOf, tells, eventsOf, bootOf, Holds, reservationsOf, withNodes, describe, Run, allAsk, opened-desk, desk, history, description, Finishes, blob}
+use Rattle.fdt_promises.specs.Calls.{to-have, effect, answer}
+use Rattle.fdt_promises.specs.Run.{phandlesOf, told, tells, eventsOf, bootOf, Holds, reservationsOf, withNodes, describe, Run, allAsk, opened-desk, desk, history, description, Finishes, blob}
 use Rattle.fdt_promises.proofs.Ended.{count-paired, shown-bytes, nodes-told, well-formed}
 use Rattle.fdt_promises.proofs.Held.{Open}
 use Rattle.fdt_promises.proofs.Runs.{opened-open, runs-open, boot-small}
@@ -100,5 +98,5 @@ module _ (r q : Run) where
   same-history e f = ap (λ (n : List ℕ). describe n (history r)) e ∙ ap (describe (q .numbers)) f
 
 pub same-kinds : (name : List ℕ) (v u : Value) → valueBytes v ≡ valueBytes u → tells (to-have name v) ≡ tells (to-have name u)
-unfolding tells
+unfolding effect told
 same-kinds name v u e = ap (λ (l : List ℕ). has (name ≔ l) ∷ []) e

@@ -1,13 +1,13 @@
 -- After an accepted finish: the shown blob is the bytes of the description, which the format can hold.
 use mathlib.Core.Path.{_≡_, refl, sym, ap, subst, _∙_}
-use mathlib.Core.Bool.{Bool, true, false, true≢false}
+use mathlib.Core.Bool.{Bool, true, false}
 use mathlib.Core.List.{List, [], _∷_, _++_, append-assoc, append-nil}
-use mathlib.Core.Option.{Option, some}
-use Prim.Native.Nat.{ℕ, suc, _+_, _*_, _/_, _%_, _≤_, _<_, _^_}
+use mathlib.Core.Option.{some}
+use Prim.Native.Nat.{ℕ, suc, _+_, _*_, _%_, _≤_, _<_, _^_}
 use native.Mathlib.Omega.{arith}
 use borrow.Author.Tests.{eqb-false, leb-false}
 use lib.Dec.{eqb, leb}
-use lib.ListN.{length, take, drop, getD}
+use lib.ListN.{length, take, getD}
 use lib.Seq.{length-take-le, drop-at}
 use Rattle.fdt_bytes.specs.Padding.{zeros}
 use Rattle.fdt_bytes.specs.Splice.{over, splice}
@@ -17,10 +17,10 @@ use Rattle.fdt_strings.specs.Entries.{joined}
 use Rattle.fdt_reserve.specs.Entry.{invalid}
 use Rattle.fdt_reserve.specs.Overlap.{start, size}
 use Rattle.fdt_reserve.proofs.Overlap.{some-at}
-use Rattle.fdt_format.specs.Blob.{namesOf, structureBytes, eventsSize, numbersOf, blobFrom, blobOf, AllPlain, AllTold, WellFormed}
-use Rattle.fdt_format.specs.Description.{Nodes, Reservation, Description}
+use Rattle.fdt_format.specs.Blob.{namesOf, structureBytes, numbersOf, blobFrom, blobOf, AllPlain, AllTold, WellFormed}
+use Rattle.fdt_format.specs.Description.{Nodes}
 use Rattle.fdt_format.specs.Events.{Event, events, nodesOf}
-use Rattle.fdt_header.specs.Header.{headerSize, structureStart, reservationBytes, headerBytes}
+use Rattle.fdt_header.specs.Header.{headerSize, reservationBytes, headerBytes}
 use Rattle.fdt_format.specs.Tokens.{finalBytes}
 use Rattle.fdt_header.proofs.HeaderBytes.{length-header}
 use Rattle.fdt_format.proofs.Nodes.{Accepted, described-by}
@@ -35,7 +35,7 @@ use Rattle.fdt_finish.specs.Shown.{shown}
 use Rattle.fdt_finish.proofs.Finishing.{finish-fits, length-finished}
 use Rattle.fdt_finish.proofs.Shown.{shown-whole}
 use Rattle.fdt_promises.specs.Calls.{to-finish, Desk, answer, after}
-use Rattle.fdt_promises.specs.Run.{Holds, reservationsOf}
+use Rattle.fdt_promises.specs.Run.{reservationsOf}
 use Rattle.fdt_promises.proofs.Desks.{finished-after}
 use Rattle.fdt_promises.proofs.Growth.{take-spliced}
 use Rattle.fdt_promises.proofs.Held.{Open}
@@ -121,14 +121,14 @@ module _ {numbers : List ℕ} {es : List Event} {boot : ℕ} {marks : List ℕ} 
       ∙ ap (splice 0 header)
       (ap (λ (j : ℕ). take j (splice used final (s .blob))) k
       ∙ take-spliced used final (s .blob) room
-      ∙ ap (λ (x : List ℕ). x ++ final) (h .bytes)
+      ∙ ap (λ (x : List ℕ). x ++ final) (h .blob .part)
       ∙ append-assoc (zeros headerSize) (reservationBytes numbers ++ structure) final
       ∙ ap (λ (x : List ℕ). zeros headerSize ++ x) (append-assoc (reservationBytes numbers) structure final))
       ∙ splice-front headerSize header (reservationBytes numbers ++ (structure ++ final)) m
-      ∙ ap (λ (x : List ℕ). header ++ (reservationBytes numbers ++ (structure ++ finalBytes x))) (h .names)
+      ∙ ap (λ (x : List ℕ). header ++ (reservationBytes numbers ++ (structure ++ finalBytes x))) (h .strings .part)
       ∙ ap (λ (x : List ℕ). header ++ (reservationBytes x ++ (structure ++ finalBytes names))) (sym (numbers-paired numbers even))
       ∙ ap (λ (x : List ℕ). x ++ (reservationBytes (numbersOf (reservationsOf numbers)) ++ (structure ++ finalBytes names)))
-      (same-header (h .reservations ∙ sym (count-paired numbers even)) (omega (arith, h .used, structure-size (namesOf es) es, count-paired numbers even)) (h .names-used) (h .boot-number))
+      (same-header (h .reservations ∙ sym (count-paired numbers even)) (omega (arith, h .used, structure-size (namesOf es) es, count-paired numbers even)) (h .strings .counted) (h .boot-number))
 
   -- what is shown
   pub shown-bytes : length numbers % 2 ≡ 0 → shown (after to-finish s .writer) (after to-finish s .blob) ≡ blobFrom (reservationsOf numbers) boot es
@@ -138,7 +138,7 @@ module _ {numbers : List ℕ} {es : List Event} {boot : ℕ} {marks : List ℕ} 
       let f = finish-fits (s .writer) (length (s .blob)) (s .strings) e in
       let l : length (finishedBlob (s .writer) (s .blob) (s .strings)) ≡ length (s .blob) = length-finished (s .writer) (s .blob) (s .strings) e in
       ap (λ (d : Desk). shown (d .writer) (d .blob)) (finished-after s e)
-      ∙ shown-whole (finishedRecord (s .writer)) (finishedBlob (s .writer) (s .blob) (s .strings)) refl refl (ap (usable blobCeiling) l ∙ sym (h .blob-room)) (f .room)
+      ∙ shown-whole (finishedRecord (s .writer)) (finishedBlob (s .writer) (s .blob) (s .strings)) refl refl (ap (usable blobCeiling) l ∙ sym (h .blob .opened)) (f .room)
       ∙ finished-bytes even
 
   -- the nodes of the events

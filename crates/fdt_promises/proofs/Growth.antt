@@ -1,9 +1,10 @@
 -- Laws of what grows by one: bytes after the used part, a name after the names, an event after the events.
-use mathlib.Core.Path.{_≡_, refl, sym, ap, _∙_}
+use mathlib.Core.Path.{_≡_, refl, sym, ap, subst, _∙_}
 use mathlib.Core.Bool.{Bool, true, false, not, _&&_, true≢false}
-use mathlib.Core.List.{List, [], _∷_, _++_, append-assoc, append-nil, foldl, foldl-append}
-use Prim.Native.Nat.{ℕ, _+_, _≤_, _<_}
+use mathlib.Core.List.{List, [], _∷_, _++_, append-nil, foldl-append}
+use Prim.Native.Nat.{ℕ, zero, suc, _+_, _-_, _≤_, _<_}
 use native.Mathlib.Omega.{arith}
+use native.Mathlib.Numerals.{add-one}
 use borrow.Author.Tests.{eqb-false}
 use lib.Dec.{eqb}
 use lib.ListN.{length, take, drop, set, length-append}
@@ -16,14 +17,17 @@ use Rattle.fdt_strings.specs.declared.Found.{Found}
 use Rattle.fdt_strings.specs.declared.Found.the-variants.{At, Nothing}
 use Rattle.fdt_strings.specs.declared.Interned.{Interned}
 use Rattle.fdt_strings.specs.declared.Interned.the-variants as place
-use Rattle.fdt_strings.specs.Entries.{entry, entries, firstFrom, findString, joined, same, NoZero, no-byte, next-byte}
+use Rattle.fdt_strings.specs.Entries.{entry, entries, firstFrom, findString, joined, NoZero, no-byte, next-byte}
 use Rattle.fdt_strings.specs.Interned.{interned}
 use Rattle.fdt_strings.proofs.Entries.{Plain as PlainNames, entries-joined, joined-append, first-after, eq-same}
 use Rattle.fdt_strings.proofs.Places.{known-found, new-placed}
-use Rattle.fdt_format.specs.Events.{Event}
+use Rattle.fdt_format.specs.Events.{Event, begins, has, ends}
 use Rattle.fdt_format.specs.Blob.{orAtEnd, withName, foundAt, offsetOf, eventSize, eventsSize, Plain, AllPlain}
+use Rattle.fdt_format.proofs.Nodes.{Accepted}
+use Rattle.fdt_record.specs.Limits.{stringsCeiling, mostDepth, usable}
+use Rattle.fdt_record.proofs.Fits.{usable-within}
 use Rattle.fdt_properties.specs.Property.{isFull, added, stored, placeOffset}
-use Rattle.fdt_promises.specs.Run.{deepens, closes, depthOf, endedOf}
+use Rattle.fdt_promises.specs.Run.{deepens, closes, depthOf, endedOf, Filled}
 
 -- ---- bytes after the used part
 
@@ -35,9 +39,26 @@ take-spliced at bs xs h =
     ∙ take-append-add (take at xs) (bs ++ rest) (length bs)
     ∙ ap (λ (l : List ℕ). take at xs ++ l) (take-at bs rest (length bs) refl)
 
--- one entry
-pub take-set : (at b : ℕ) (xs : List ℕ) → at < length xs → take (at + 1) (set xs at b) ≡ take at xs ++ (b ∷ [])
-take-set at b xs h = ap (take (at + 1)) (set-splice at b xs h) ∙ take-spliced at (b ∷ []) xs (omega arith)
+-- a buffer with nothing used
+pub none-filled : (ceiling : ℕ) (buffer : List ℕ) → Filled ceiling [] (usable ceiling (length buffer)) 0 buffer
+none-filled ceiling buffer = record { part = refl; counted = refl; opened = refl; within = omega arith }
+
+-- more bytes after the used part
+pub more-filled : {ceiling room used : ℕ} {contents buffer : List ℕ} → Filled ceiling contents room used buffer → (bs : List ℕ) → used + length bs ≤ room → Filled ceiling (contents ++ bs) room (used + length bs) (splice used bs buffer)
+more-filled {ceiling} {room} {used} {contents} {buffer} f bs h =
+    let l : used + length bs ≤ length buffer = omega (arith, usable-within ceiling (length buffer) .0, f .opened) in
+    record {
+      part = take-spliced used bs buffer l ∙ ap (λ (x : List ℕ). x ++ bs) (f .part);
+      counted = omega (arith, f .counted, length-append contents bs);
+      opened = f .opened ∙ ap (usable ceiling) (sym (length-splice used bs buffer l));
+      within = h;
+    }
+
+-- one entry more
+pub one-filled : {ceiling room used : ℕ} {contents buffer : List ℕ} → Filled ceiling contents room used buffer → (b : ℕ) → used < room → Filled ceiling (contents ++ (b ∷ [])) room (used + 1) (set buffer used b)
+one-filled {ceiling} {room} {used} {contents} {buffer} f b h =
+    subst (Filled ceiling (contents ++ (b ∷ [])) room (used + 1)) (sym (set-splice used b buffer (omega (arith, usable-within ceiling (length buffer) .0, f .opened))))
+    (more-filled f (b ∷ []) (omega arith))
 
 -- ---- a name after the names
 
@@ -52,57 +73,50 @@ no-zero (b ∷ s) h = go (eqb b 0) refl (λ t. no-zero s t) h
     go false e more h = let n : b ≡ 0 → ⊥ = eqb-false b 0 e in let p : 0 < b = omega (arith, n) in next-byte p (more h)
 
 -- the strings of names, with a name at its place
-pub record Named (used : ℕ) (strings name : List ℕ) (names : List (List ℕ)) (p : Interned) : Type 0 where
+pub record Named (room used : ℕ) (strings name : List ℕ) (names : List (List ℕ)) (p : Interned) : Type 0 where
   pub offset : placeOffset p ≡ offsetOf (withName names name) name
-  pub bytes : take (used + added p name) (stored p name strings) ≡ joined (withName names name)
-  pub figure : used + added p name ≡ length (joined (withName names name))
-  pub length-kept : length (stored p name strings) ≡ length strings
+  pub filled : Filled stringsCeiling (joined (withName names name)) room (used + added p name) (stored p name strings)
 
-module _ (used room : ℕ) (strings name : List ℕ) (names : List (List ℕ)) (plain : PlainNames names) (are : take used strings ≡ joined names) (count : used ≡ length (joined names)) (within : room ≤ length strings) where
+module _ {room used : ℕ} {strings : List ℕ} (name : List ℕ) {names : List (List ℕ)} (plain : PlainNames names) (f : Filled stringsCeiling (joined names) room used strings) where
   -- the name is found among the names just where it is found in the strings
-  among : (f : Found) → findString (take used strings) name ≡ f → firstFrom 0 names name ≡ f
+  among : (g : Found) → findString (take used strings) name ≡ g → firstFrom 0 names name ≡ g
   unfolding findString
-  among f e = ap (λ (l : List (List ℕ)). firstFrom 0 l name) (sym (entries-joined plain) ∙ ap entries (sym are)) ∙ e
+  among g e = ap (λ (l : List (List ℕ)). firstFrom 0 l name) (sym (entries-joined plain) ∙ ap entries (sym (f .part))) ∙ e
 
-  pub named : isFull (interned (take used strings) room name) ≡ false → Named used strings name names (interned (take used strings) room name)
+  pub named : isFull (interned (take used strings) room name) ≡ false → Named room used strings name names (interned (take used strings) room name)
   unfolding isFull placeOffset offsetOf foundAt withName orAtEnd added stored firstFrom joined
   named h = go (interned (take used strings) room name) refl h
     where
-      known : (i : ℕ) → firstFrom 0 names name ≡ At i → Named used strings name names (place.Known i)
-      known i f =
-          let w : withName names name ≡ names = simp f in
+      known : (i : ℕ) → firstFrom 0 names name ≡ At i → Named room used strings name names (place.Known i)
+      known i g =
+          let w : withName names name ≡ names = simp g in
+          let z : used + 0 ≡ used = omega arith in
           record {
-            offset = sym (ap (λ (l : List (List ℕ)). foundAt (firstFrom 0 l name)) w ∙ ap foundAt f);
-            bytes = ap (λ (n : ℕ). take n strings) (let z : used + 0 ≡ used = omega arith in z) ∙ are ∙ ap joined (sym w);
-            figure = let z : used + 0 ≡ used = omega arith in z ∙ count ∙ ap (λ (l : List (List ℕ)). length (joined l)) (sym w);
-            length-kept = refl;
+            offset = sym (ap (λ (l : List (List ℕ)). foundAt (firstFrom 0 l name)) w ∙ ap foundAt g);
+            filled = subst (λ (n : ℕ). Filled stringsCeiling (joined (withName names name)) room n strings) (sym z)
+                (subst (λ (l : List (List ℕ)). Filled stringsCeiling (joined l) room used strings) (sym w) f);
           }
 
-      new : (i : ℕ) → firstFrom 0 names name ≡ Nothing → i ≡ used → used + length (entry name) ≤ length strings → Named used strings name names (place.New i)
-      new i f e fits =
-          let w : withName names name ≡ names ++ (name ∷ []) = simp f in
+      new : (i : ℕ) → firstFrom 0 names name ≡ Nothing → i ≡ used → used + length (entry name) ≤ room → Named room used strings name names (place.New i)
+      new i g e fits =
+          let w : withName names name ≡ names ++ (name ∷ []) = simp g in
           let j : joined (names ++ (name ∷ [])) ≡ joined names ++ entry name =
           joined-append names (name ∷ []) ∙ ap (λ (l : List ℕ). joined names ++ l) (append-nil (entry name))
           in
           let o : firstFrom 0 (names ++ (name ∷ [])) name ≡ At (0 + length (joined names)) =
-          first-after name 0 names (name ∷ []) f ∙ simp (eq-same name name refl)
+          first-after name 0 names (name ∷ []) g ∙ simp (eq-same name name refl)
           in
           record {
-            offset = e ∙ count ∙ sym (ap (λ (l : List (List ℕ)). foundAt (firstFrom 0 l name)) w ∙ ap foundAt o ∙ omega arith);
-            bytes =
-                ap (λ (k : ℕ). take (used + length (entry name)) (splice k (entry name) strings)) e
-                ∙ take-spliced used (entry name) strings fits
-                ∙ ap (λ (l : List ℕ). l ++ entry name) are
-                ∙ sym (ap joined w ∙ j);
-            figure = omega (arith, count, ap length j, length-append (joined names) (entry name), ap (λ (l : List (List ℕ)). length (joined l)) w);
-            length-kept = ap (λ (k : ℕ). length (splice k (entry name) strings)) e ∙ length-splice used (entry name) strings fits;
+            offset = e ∙ f .counted ∙ sym (ap (λ (l : List (List ℕ)). foundAt (firstFrom 0 l name)) w ∙ ap foundAt o ∙ omega arith);
+            filled = subst (λ (k : ℕ). Filled stringsCeiling (joined (withName names name)) room (used + length (entry name)) (splice k (entry name) strings)) (sym e)
+                (subst (λ (l : List ℕ). Filled stringsCeiling l room (used + length (entry name)) (splice used (entry name) strings)) (sym (ap joined w ∙ j)) (more-filled f (entry name) fits));
           }
 
-      go : (p : Interned) → interned (take used strings) room name ≡ p → isFull p ≡ false → Named used strings name names p
+      go : (p : Interned) → interned (take used strings) room name ≡ p → isFull p ≡ false → Named room used strings name names p
       go (place.Known i) e h = known i (among (At i) (known-found (take used strings) name room i e))
       go (place.New i) e h =
           let s = new-placed (take used strings) name room i e in
-          let n : length (take used strings) ≡ used = ap length are ∙ sym count in
+          let n : length (take used strings) ≡ used = ap length (f .part) ∙ sym (f .counted) in
           new i (among Nothing (s .absent)) (sym (s .place) ∙ n) (omega (arith, s .fits, s .place, n))
       go place.StringRoom e h = absurd (true≢false h)
 
@@ -125,3 +139,24 @@ depth-snoc es e = foldl-append deepens 0 es (e ∷ [])
 pub ended-snoc : (es : List Event) (e : Event) → endedOf (es ++ (e ∷ [])) ≡ closes (endedOf es) e
 unfolding endedOf
 ended-snoc es e = foldl-append closes false es (e ∷ [])
+
+-- an event that an accepted call can add at this depth, where a node was ended last or not
+unfoldable pub Follows : ℕ → Bool → Event → Type 0
+Follows depth ended (begins name) = depth < mostDepth
+Follows depth ended (has p) = (0 < depth) × (ended ≡ false)
+Follows depth ended ends = 0 < depth
+
+pub still-shallow : (depth : ℕ) (ended : Bool) (e : Event) → Follows depth ended e → depth ≤ mostDepth → deepens depth e ≤ mostDepth
+unfolding Follows deepens
+still-shallow depth ended (begins name) f h = omega arith
+still-shallow depth ended (has p) f h = h
+still-shallow depth ended ends f h = omega arith
+
+pub still-accepted : (depth : ℕ) (ended : Bool) (e : Event) (rest : List Event) → Follows depth ended e → Accepted (deepens depth e) (closes ended e) rest → Accepted depth ended (e ∷ rest)
+unfolding Follows deepens closes Accepted
+still-accepted depth ended (begins name) rest f a = subst (λ (d : ℕ). Accepted d false rest) (add-one depth) a
+still-accepted zero ended (has p) rest f a = absurd (let l = f .0 in omega (arith, l))
+still-accepted (suc depth) true (has p) rest f a = absurd (true≢false (f .1))
+still-accepted (suc depth) false (has p) rest f a = a
+still-accepted zero ended ends rest f a = absurd (omega arith)
+still-accepted (suc depth) ended ends rest f a = subst (λ (n : ℕ). Accepted n true rest) (let z : suc depth - 1 ≡ depth = omega arith in z) a

@@ -1,6 +1,6 @@
 -- An accepted call changes only its own bytes, and these lie inside the usable length.
 use mathlib.Core.Path.{_≡_, refl, sym, ap, subst, _∙_}
-use mathlib.Core.Bool.{true, false, true≢false}
+use mathlib.Core.Bool.{false, true≢false}
 use mathlib.Core.List.{List}
 use mathlib.Core.Logic.{_⊎_, inr, ⊎-elim, ⊎-map}
 use Prim.Native.Nat.{ℕ, _+_, _≤_, _<_}

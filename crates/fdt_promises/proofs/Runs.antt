@@ -1,24 +1,18 @@
 -- What stands after every call of a run, by induction on the calls: each adds what it tells and records; after a finish all are refused.
 use mathlib.Core.Path.{_≡_, refl, sym, ap, subst, _∙_}
-use mathlib.Core.Bool.{Bool, true, false, true≢false}
+use mathlib.Core.Bool.{Bool, true, false}
 use mathlib.Core.List.{List, [], _∷_, _++_, append-assoc, append-nil, foldl}
-use Prim.Native.Nat.{ℕ, _+_, _*_, _%_, _≤_, _<_, _^_}
+use Prim.Native.Nat.{ℕ, _+_, _<_, _^_}
 use native.Mathlib.Omega.{arith}
-use lib.Dec.{lit<}
-use lib.ListN.{length, take, drop}
-use lib.Seq.{take-at}
+use lib.ListN.{length}
 use Rattle.fdt_bytes.specs.Padding.{zeros}
-use Rattle.fdt_bytes.specs.Splice.{over, splice}
-use Rattle.fdt_bytes.proofs.Splice.{length-splice}
 use Rattle.fdt_strings.specs.Entries.{joined}
 use Rattle.fdt_format.specs.Blob.{namesFrom, namesOf, structureBytes, eventsSize, AllPlain}
 use Rattle.fdt_format.specs.Events.{Event}
 use Rattle.fdt_header.specs.Header.{headerSize, structureStart, reservationBytes}
-use Rattle.fdt_format.proofs.Nodes.{Accepted}
-use Rattle.fdt_record.specs.declared.Answer.{Answer}
 use Rattle.fdt_record.specs.declared.Answer.the-variants.{Done}
 use Rattle.fdt_record.specs.Answers.{accepts, upon}
-use Rattle.fdt_record.specs.Limits.{blobCeiling, usable}
+use Rattle.fdt_record.specs.Limits.{blobCeiling, stringsCeiling, phandlesCeiling}
 use Rattle.fdt_record.specs.Rows.{first}
 use Rattle.fdt_record.specs.Tests.{aloneRows, blobRows, stringsRows}
 use Rattle.fdt_record.proofs.Answers.{accepts-done, upon-done, upon-refused}
@@ -26,14 +20,14 @@ use Rattle.fdt_opening.specs.Opening.{count, openingBytes, openedRecord}
 use Rattle.fdt_opening.proofs.Opening.{opened-fits, length-openingBytes}
 use Rattle.fdt_nodes.specs.Begin.{beginRows, beginAnswer}
 use Rattle.fdt_nodes.specs.End.{endRows, endAnswer}
-use Rattle.fdt_properties.specs.Property.{stateRows, nameRows, propertyRows, propertyAnswer}
+use Rattle.fdt_properties.specs.Property.{stateRows, propertyRows, propertyAnswer}
 use Rattle.fdt_phandles.specs.Phandle.{recordRows, recordAnswer}
 use Rattle.fdt_finish.specs.Boot.{bootAnswer}
 use Rattle.fdt_finish.specs.Finish.{finishRows, finishAnswer}
-use Rattle.fdt_promises.specs.Calls.{Request, to-open, to-boot, to-begin, to-end, to-have, to-mark, to-finish, to-show, Desk, answer, after, marked, unaltered}
-use Rattle.fdt_promises.specs.Run.{runs, accepted, recordedBy, phandlesOf, tells, eventsOf, boots, bootOf, Holds, depthOf, endedOf, InRun, AllInRun}
+use Rattle.fdt_promises.specs.Calls.{Request, to-open, to-boot, to-begin, to-end, to-have, to-mark, to-finish, to-show, Effect, opens, sets-boot, adds, records, nothing, effect, Desk, answer, after, markAnswer, marked, leftBy}
+use Rattle.fdt_promises.specs.Run.{runs, accepted, recordedBy, phandlesOf, tells, eventsOf, bootAfter, boots, depthOf, endedOf, InRun, AllInRun}
 use Rattle.fdt_promises.proofs.Desks.{opened-after, refused-after, refused-mark}
-use Rattle.fdt_promises.proofs.Growth.{take-spliced}
+use Rattle.fdt_promises.proofs.Growth.{none-filled, more-filled}
 use Rattle.fdt_promises.proofs.Held.{Open, accepted-open, refused-open}
 
 -- ---- the opening
@@ -42,29 +36,24 @@ pub opened-open : (s : Desk) (numbers : List ℕ) → answer (to-open numbers) s
 unfolding answer openedRecord openingBytes namesOf namesFrom structureBytes eventsSize joined depthOf endedOf AllPlain
 opened-open s numbers e =
     let f = opened-fits (length (s .blob)) numbers e in
-    let n = length-openingBytes numbers in
-    let start : structureStart (count numbers) ≡ 0 + length (zeros headerSize ++ reservationBytes numbers) = omega (arith, n, f .even) in
-    let room : 0 + length (zeros headerSize ++ reservationBytes numbers) ≤ length (s .blob) = omega (arith, f .room, start) in
+    let bytes = zeros headerSize ++ reservationBytes numbers in
+    let start : 0 + length bytes ≡ structureStart (count numbers) = omega (arith, length-openingBytes numbers, f .even) in
     subst (Open numbers [] 0 []) (sym (opened-after s numbers e)) (record {
       holds = record {
         unfinished = refl;
-        bytes =
-            ap (λ (k : ℕ). take k (splice 0 (zeros headerSize ++ reservationBytes numbers) (s .blob))) start
-            ∙ take-spliced 0 (zeros headerSize ++ reservationBytes numbers) (s .blob) room
-            ∙ ap (λ (l : List ℕ). zeros headerSize ++ l) (sym (append-nil (reservationBytes numbers)));
+        blob =
+            rw (append-nil (reservationBytes numbers), ← start)
+            (more-filled (none-filled blobCeiling (s .blob)) bytes (omega (arith, f .started, start)));
         used = omega arith;
-        names = refl;
-        names-used = refl;
-        marks = refl;
-        marks-used = refl;
+        strings = none-filled stringsCeiling (s .strings);
+        marks = none-filled phandlesCeiling (s .phandles);
         depth = refl;
         ended = refl;
         boot-number = refl;
         reservations = refl;
-        blob-room = ap (usable blobCeiling) (sym (length-splice 0 (zeros headerSize ++ reservationBytes numbers) (s .blob) room));
-        strings-room = refl;
-        phandles-room = refl;
       };
+      few = f .few;
+      shallow = omega arith;
       plain = tt;
       leads = λ rest a. a;
     })
@@ -73,16 +62,16 @@ opened-open s numbers e =
 
 module _ (s : Desk) (f : s .writer .finished ≡ true) where
   -- every call is refused 18, and showing changes nothing
-  closed-stays : (c : Request) → InRun c → after c s ≡ s
-  unfolding InRun answer unaltered after aloneRows blobRows stringsRows bootAnswer beginAnswer beginRows endAnswer endRows propertyAnswer propertyRows stateRows recordAnswer recordRows finishAnswer finishRows first accepts
+  closed-stays : (c : Request) → InRun (effect c) → after c s ≡ s
+  unfolding InRun effect answer leftBy after aloneRows blobRows stringsRows bootAnswer beginAnswer beginRows endAnswer endRows propertyAnswer propertyRows stateRows recordAnswer recordRows finishAnswer finishRows first accepts
   closed-stays (to-open numbers) i = absurd i
   closed-stays (to-boot n) i = refused-after s (to-boot n) (simp f)
   closed-stays (to-begin name) i = refused-after s (to-begin name) (simp f)
   closed-stays (to-end handle) i = refused-after s (to-end handle) (simp f)
   closed-stays (to-have name v) i = refused-after s (to-have name v) (simp f)
   closed-stays (to-mark value) i =
-      let r : accepts (recordAnswer (s .writer) (length (s .blob)) (s .strings) (s .phandles) value) ≡ false = simp f in
-      refused-after s (to-mark value) (refused-mark s value r) ∙ upon-refused (recordAnswer (s .writer) (length (s .blob)) (s .strings) (s .phandles) value) (marked s value) s r
+      let r : accepts (markAnswer value s) ≡ false = simp f in
+      refused-after s (to-mark value) (refused-mark s value r) ∙ upon-refused (markAnswer value s) (marked s value) s r
   closed-stays to-finish i = refused-after s to-finish (simp f)
   closed-stays to-show i = refl
 
@@ -117,35 +106,32 @@ module _ {numbers : List ℕ} where
 
       go :
           (b : Bool) → accepts (answer c s) ≡ b →
-          (Open numbers (es ++ tells c) (boots boot c) (marks ++ recordedBy c s) (after c s) → Open numbers ((es ++ tells c) ++ eventsOf later) (foldl boots (boots boot c) later) ((marks ++ recordedBy c s) ++ marked-later) (runs cs (after c s))) →
-          (Open numbers es boot (marks ++ recordedBy c s) (after c s) → Open numbers (es ++ eventsOf later) (foldl boots boot later) ((marks ++ recordedBy c s) ++ marked-later) (runs cs (after c s))) →
-          Open numbers (es ++ eventsOf (upon (answer c s) (c ∷ later) later)) (foldl boots boot (upon (answer c s) (c ∷ later) later)) (marks ++ (recordedBy c s ++ marked-later)) (runs cs (after c s))
+          (Open numbers (es ++ tells c) (boots boot c) (marks ++ recordedBy (effect c) s) (after c s) → Open numbers ((es ++ tells c) ++ eventsOf later) (foldl boots (boots boot c) later) ((marks ++ recordedBy (effect c) s) ++ marked-later) (runs cs (after c s))) →
+          (Open numbers es boot (marks ++ recordedBy (effect c) s) (after c s) → Open numbers (es ++ eventsOf later) (foldl boots boot later) ((marks ++ recordedBy (effect c) s) ++ marked-later) (runs cs (after c s))) →
+          Open numbers (es ++ eventsOf (upon (answer c s) (c ∷ later) later)) (foldl boots boot (upon (answer c s) (c ∷ later) later)) (marks ++ (recordedBy (effect c) s ++ marked-later)) (runs cs (after c s))
       go true t taken left =
           let d = accepts-done (answer c s) t in
-          let p = taken (accepted-open c (i .0) o d (open-before cs (i .1) (after c s) u)) in
-          subst (λ (l : List Request). Open numbers (es ++ eventsOf l) (foldl boots boot l) (marks ++ (recordedBy c s ++ marked-later)) (runs cs (after c s))) (sym (upon-done _ _ _ d))
-          (subst (λ (l : List Event). Open numbers l (foldl boots (boots boot c) later) (marks ++ (recordedBy c s ++ marked-later)) (runs cs (after c s))) (append-assoc es (tells c) (eventsOf later))
-          (subst (λ (l : List ℕ). Open numbers ((es ++ tells c) ++ eventsOf later) (foldl boots (boots boot c) later) l (runs cs (after c s))) (append-assoc marks (recordedBy c s) marked-later) p))
+          let p = taken (accepted-open o c (i .0) d (open-before cs (i .1) (after c s) u)) in
+          subst (λ (l : List Request). Open numbers (es ++ eventsOf l) (foldl boots boot l) (marks ++ (recordedBy (effect c) s ++ marked-later)) (runs cs (after c s))) (sym (upon-done _ _ _ d))
+          (subst (λ (l : List Event). Open numbers l (foldl boots (boots boot c) later) (marks ++ (recordedBy (effect c) s ++ marked-later)) (runs cs (after c s))) (append-assoc es (tells c) (eventsOf later))
+          (subst (λ (l : List ℕ). Open numbers ((es ++ tells c) ++ eventsOf later) (foldl boots (boots boot c) later) l (runs cs (after c s))) (append-assoc marks (recordedBy (effect c) s) marked-later) p))
       go false t taken left =
-          let p = left (refused-open c (i .0) o t) in
-          subst (λ (l : List Request). Open numbers (es ++ eventsOf l) (foldl boots boot l) (marks ++ (recordedBy c s ++ marked-later)) (runs cs (after c s))) (sym (upon-refused _ _ _ t))
-          (subst (λ (l : List ℕ). Open numbers (es ++ eventsOf later) (foldl boots boot later) l (runs cs (after c s))) (append-assoc marks (recordedBy c s) marked-later) p)
+          let p = left (refused-open o c (i .0) t) in
+          subst (λ (l : List Request). Open numbers (es ++ eventsOf l) (foldl boots boot l) (marks ++ (recordedBy (effect c) s ++ marked-later)) (runs cs (after c s))) (sym (upon-refused _ _ _ t))
+          (subst (λ (l : List ℕ). Open numbers (es ++ eventsOf later) (foldl boots boot later) l (runs cs (after c s))) (append-assoc marks (recordedBy (effect c) s) marked-later) p)
 
 -- a boot number of a run has 32 bits
 pub boot-small : (cs : List Request) → AllInRun cs → (s : Desk) (boot : ℕ) → boot < 2 ^ 32 → foldl boots boot (accepted cs s) < 2 ^ 32
-unfolding AllInRun accepted boots InRun
+unfolding AllInRun accepted bootAfter InRun
 boot-small [] i s boot h = h
-boot-small (c ∷ cs) i s boot h = go (accepts (answer c s)) refl (boot-small cs (i .1) (after c s) (boots boot c) (one c (i .0))) (boot-small cs (i .1) (after c s) boot h)
+boot-small (c ∷ cs) i s boot h = go (accepts (answer c s)) refl (boot-small cs (i .1) (after c s) (boots boot c) (one (effect c) (i .0))) (boot-small cs (i .1) (after c s) boot h)
   where
-    one : (c : Request) → InRun c → boots boot c < 2 ^ 32
-    one (to-open numbers) i = h
-    one (to-boot n) i = i
-    one (to-begin name) i = h
-    one (to-end handle) i = h
-    one (to-have name v) i = h
-    one (to-mark value) i = h
-    one to-finish i = h
-    one to-show i = h
+    one : (x : Effect) → InRun x → bootAfter boot x < 2 ^ 32
+    one opens i = h
+    one (sets-boot n) i = i
+    one (adds e) i = h
+    one (records value) i = h
+    one nothing i = h
 
     go : (b : Bool) → accepts (answer c s) ≡ b → foldl boots (boots boot c) (accepted cs (after c s)) < 2 ^ 32 → foldl boots boot (accepted cs (after c s)) < 2 ^ 32 → foldl boots boot (upon (answer c s) (c ∷ accepted cs (after c s)) (accepted cs (after c s))) < 2 ^ 32
     go true t p q = subst (λ (l : List Request). foldl boots boot l < 2 ^ 32) (sym (upon-done _ _ _ (accepts-done _ t))) p

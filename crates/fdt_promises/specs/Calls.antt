@@ -2,7 +2,9 @@
 use mathlib.Core.List.{List, [], _∷_}
 use Prim.Native.Nat.{ℕ}
 use lib.ListN.{length, set}
-use Rattle.fdt_values.specs.Value.{Value, raw, cells, texts}
+use Rattle.fdt_values.specs.Value.{Value, raw, cells, texts, valueBytes}
+use Rattle.fdt_format.specs.Description.{_≔_}
+use Rattle.fdt_format.specs.Events.{Event, begins, has, ends}
 use Rattle.fdt_record.specs.declared.Answer.{Answer}
 use Rattle.fdt_record.specs.declared.Answer.the-variants.{Done}
 use Rattle.fdt_record.specs.declared.Record.{Record}
@@ -64,12 +66,44 @@ asks (property-phandle value) = to-mark value
 asks finish = to-finish
 asks show = to-show
 
+-- what a request does beside its answer and its bytes
+pub data Effect : Type 0 where
+  opens : Effect
+  sets-boot : ℕ → Effect
+  adds : Event → Effect
+  records : ℕ → Effect
+  nothing : Effect
+
+-- what each request does; a phandle's value is recorded, and then it is a property
+unfoldable pub effect : Request → Effect
+effect (to-open numbers) = opens
+effect (to-boot n) = sets-boot n
+effect (to-begin name) = adds (begins name)
+effect (to-end handle) = adds ends
+effect (to-have name v) = adds (has (name ≔ valueBytes v))
+effect (to-mark value) = records value
+effect to-finish = nothing
+effect to-show = nothing
+
 -- the newest record and the three buffers
 pub record Desk : Type 0 where
   pub writer : Record
   pub blob : List ℕ
   pub strings : List ℕ
   pub phandles : List ℕ
+
+-- a desk with another record, blob, strings or phandles, and the rest as it was
+abbrev pub withWriter : Record → Desk → Desk
+withWriter w s = record { writer = w; blob = s .blob; strings = s .strings; phandles = s .phandles }
+
+abbrev pub withBlob : List ℕ → Desk → Desk
+withBlob blob s = record { writer = s .writer; blob = blob; strings = s .strings; phandles = s .phandles }
+
+abbrev pub withStrings : List ℕ → Desk → Desk
+withStrings strings s = record { writer = s .writer; blob = s .blob; strings = strings; phandles = s .phandles }
+
+abbrev pub withPhandles : List ℕ → Desk → Desk
+withPhandles phandles s = record { writer = s .writer; blob = s .blob; strings = s .strings; phandles = phandles }
 
 -- what is answered; showing is never refused
 unfoldable pub answer : Request → Desk → Answer
@@ -84,73 +118,46 @@ answer to-show s = Done
 
 -- the record that is handed back, and the buffers afterwards
 unfoldable pub after : Request → Desk → Desk
-after (to-open numbers) s = record {
-  writer = of-opening.opening (length (s .blob)) (length (s .strings)) (length (s .phandles)) numbers .after;
-  blob = of-opening.openingBlob (s .blob) numbers;
-  strings = s .strings;
-  phandles = s .phandles;
-}
-after (to-boot n) s = record {
-  writer = of-boot.boot (s .writer) n .after;
-  blob = s .blob;
-  strings = s .strings;
-  phandles = s .phandles;
-}
-after (to-begin name) s = record {
-  writer = of-begin.begin (s .writer) (s .blob) name .after;
-  blob = of-begin.beginBlob (s .writer) (s .blob) name;
-  strings = s .strings;
-  phandles = s .phandles;
-}
-after (to-end handle) s = record {
-  writer = of-end.end (s .writer) (s .blob) handle .after;
-  blob = of-end.endBlob (s .writer) (s .blob) handle;
-  strings = s .strings;
-  phandles = s .phandles;
-}
-after (to-have name v) s = record {
-  writer = of-property.property (s .writer) (length (s .blob)) (s .strings) name v .after;
-  blob = of-property.propertyBlob (s .writer) (s .blob) (s .strings) name v;
-  strings = of-property.propertyStrings (s .writer) (length (s .blob)) (s .strings) name v;
-  phandles = s .phandles;
-}
-after (to-mark value) s = record {
-  writer = of-phandle.phandle (s .writer) (length (s .blob)) (s .strings) (s .phandles) value .after;
-  blob = of-phandle.phandleBlob (s .writer) (s .blob) (s .strings) (s .phandles) value;
-  strings = of-phandle.phandleStrings (s .writer) (length (s .blob)) (s .strings) (s .phandles) value;
-  phandles = of-phandle.phandleTable (s .writer) (length (s .blob)) (s .strings) (s .phandles) value;
-}
-after to-finish s = record {
-  writer = of-finish.finish (s .writer) (length (s .blob)) (s .strings) .after;
-  blob = of-finish.finishBlob (s .writer) (s .blob) (s .strings);
-  strings = s .strings;
-  phandles = s .phandles;
-}
+after (to-open numbers) s =
+    withWriter (of-opening.opening (length (s .blob)) (length (s .strings)) (length (s .phandles)) numbers .after)
+    (withBlob (of-opening.openingBlob (s .blob) numbers) s)
+after (to-boot n) s = withWriter (of-boot.boot (s .writer) n .after) s
+after (to-begin name) s =
+    withWriter (of-begin.begin (s .writer) (s .blob) name .after) (withBlob (of-begin.beginBlob (s .writer) (s .blob) name) s)
+after (to-end handle) s =
+    withWriter (of-end.end (s .writer) (s .blob) handle .after) (withBlob (of-end.endBlob (s .writer) (s .blob) handle) s)
+after (to-have name v) s =
+    withWriter (of-property.property (s .writer) (length (s .blob)) (s .strings) name v .after)
+    (withBlob (of-property.propertyBlob (s .writer) (s .blob) (s .strings) name v)
+    (withStrings (of-property.propertyStrings (s .writer) (length (s .blob)) (s .strings) name v) s))
+after (to-mark value) s =
+    withWriter (of-phandle.phandle (s .writer) (length (s .blob)) (s .strings) (s .phandles) value .after)
+    (withBlob (of-phandle.phandleBlob (s .writer) (s .blob) (s .strings) (s .phandles) value)
+    (withStrings (of-phandle.phandleStrings (s .writer) (length (s .blob)) (s .strings) (s .phandles) value)
+    (withPhandles (of-phandle.phandleTable (s .writer) (length (s .blob)) (s .strings) (s .phandles) value) s)))
+after to-finish s =
+    withWriter (of-finish.finish (s .writer) (length (s .blob)) (s .strings) .after)
+    (withBlob (of-finish.finishBlob (s .writer) (s .blob) (s .strings)) s)
 after to-show s = s
+
+-- what a phandle call answers before its value is recorded
+abbrev pub markAnswer : ℕ → Desk → Answer
+markAnswer value s = of-phandle.recordAnswer (s .writer) (length (s .blob)) (s .strings) (s .phandles) value
 
 -- the desk once a phandle's value is recorded
 abbrev pub marked : Desk → ℕ → Desk
-marked s value = record {
-  writer = of-phandle.recorded (s .writer);
-  blob = s .blob;
-  strings = s .strings;
-  phandles = set (s .phandles) (s .writer .«phandles_used») value;
-}
+marked s value =
+    withWriter (of-phandle.recorded (s .writer)) (withPhandles (set (s .phandles) (s .writer .«phandles_used») value) s)
 
--- what a refused call leaves: nothing is altered. A refused opening, which takes no record, hands back the closed one. The one
--- exception is a phandle call that passed 13 and 16: its value is recorded.
-unfoldable pub unaltered : Request → Desk → Desk
-unaltered (to-open numbers) s = record {
-  writer = of-opening.closedRecord;
-  blob = s .blob;
-  strings = s .strings;
-  phandles = s .phandles;
-}
-unaltered (to-boot n) s = s
-unaltered (to-begin name) s = s
-unaltered (to-end handle) s = s
-unaltered (to-have name v) s = s
-unaltered (to-mark value) s =
-    upon (of-phandle.recordAnswer (s .writer) (length (s .blob)) (s .strings) (s .phandles) value) (marked s value) s
-unaltered to-finish s = s
-unaltered to-show s = s
+-- what a refused call leaves, by what it does: nothing is altered. A refused opening, which takes no record, hands back the
+-- closed one. The one exception is a phandle call that passed 13 and 16: its value is recorded.
+unfoldable pub leftBy : Effect → Desk → Desk
+leftBy opens s = withWriter of-opening.closedRecord s
+leftBy (sets-boot n) s = s
+leftBy (adds e) s = s
+leftBy (records value) s = upon (markAnswer value s) (marked s value) s
+leftBy nothing s = s
+
+-- what a refused call leaves
+abbrev pub unaltered : Request → Desk → Desk
+unaltered c s = leftBy (effect c) s

@@ -1,11 +1,11 @@
 -- Blobs that our writer does not make, and what the reading says of each: made by hand from document 01, "How a blob is read".
 use mathlib.Core.Path.{_≡_}
-use mathlib.Core.List.{List, [], _∷_, _++_}
+use mathlib.Core.List.{List, [], _∷_}
 use mathlib.Core.Option.{Option, none, some}
 use Prim.Native.Nat.{ℕ, zero, suc, _+_, _*_}
 use lib.ListN.{length, set}
 use Rattle.fdt_bytes.specs.BigEndian.{cellBytes}
-use Rattle.fdt_format.specs.Description.{Property, _≔_, Nodes, no-more, node, Reservation, reserved, Description}
+use Rattle.fdt_format.specs.Description.{_≔_, Nodes, no-more, node, reserved, Description}
 use Rattle.fdt_format.specs.Reading.{reading}
 
 infix 20 _reads_

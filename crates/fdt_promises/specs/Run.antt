@@ -3,7 +3,7 @@ use mathlib.Core.Path.{_≡_}
 use mathlib.Core.Bool.{Bool, true, false}
 use mathlib.Core.List.{List, [], _∷_, _++_, foldl}
 use mathlib.Core.Option.{Option, none, some}
-use Prim.Native.Nat.{ℕ, _+_, _-_, _<_, _^_}
+use Prim.Native.Nat.{ℕ, _+_, _-_, _≤_, _<_, _^_}
 use lib.ListN.{length, take}
 use Rattle.fdt_bytes.specs.Padding.{zeros}
 use Rattle.fdt_strings.specs.Entries.{joined}
@@ -13,13 +13,12 @@ use Rattle.fdt_format.specs.Description.{_≔_, Nodes, Reservation, reserved, D
 use Rattle.fdt_format.specs.Events.{Event, begins, has, ends, nodesOf}
 use Rattle.fdt_header.specs.Header.{headerSize, structureStart, reservationBytes}
 use Rattle.fdt_record.specs.declared.Answer.the-variants.{Done}
-use Rattle.fdt_record.specs.declared.Record.{Record}
 use Rattle.fdt_record.specs.Answers.{upon}
 use Rattle.fdt_record.specs.Limits.{blobCeiling, stringsCeiling, phandlesCeiling, usable}
 use Rattle.fdt_opening.specs.Opening.{count}
-use Rattle.fdt_phandles.specs.Phandle.{phandleName, phandleValue, recordAnswer}
+use Rattle.fdt_phandles.specs.Phandle.{phandleName, phandleValue}
 use Rattle.fdt_finish.specs.Shown.{shown}
-use Rattle.fdt_promises.specs.Calls.{Call, asks, Request, to-open, to-boot, to-begin, to-end, to-have, to-mark, to-finish, to-show, Desk, answer, after}
+use Rattle.fdt_promises.specs.Calls.{Call, asks, Request, to-open, to-finish, Effect, opens, sets-boot, adds, records, nothing, effect, Desk, answer, after, markAnswer}
 
 -- ---- calls one after the other
 
@@ -33,51 +32,49 @@ unfoldable pub accepted : List Request → Desk → List Request
 accepted [] s = []
 accepted (c ∷ cs) s = upon (answer c s) (c ∷ accepted cs (after c s)) (accepted cs (after c s))
 
--- the value that a phandle call records: once 13 and 16 are passed, accepted or not
-unfoldable pub recordedBy : Request → Desk → List ℕ
-recordedBy (to-open numbers) s = []
-recordedBy (to-boot n) s = []
-recordedBy (to-begin name) s = []
-recordedBy (to-end handle) s = []
-recordedBy (to-have name v) s = []
-recordedBy (to-mark value) s =
-    upon (recordAnswer (s .writer) (length (s .blob)) (s .strings) (s .phandles) value) (value ∷ []) []
-recordedBy to-finish s = []
-recordedBy to-show s = []
+-- the values that a call records, by what it does: a phandle's once 13 and 16 are passed, accepted or not
+unfoldable pub recordedBy : Effect → Desk → List ℕ
+recordedBy opens s = []
+recordedBy (sets-boot n) s = []
+recordedBy (adds e) s = []
+recordedBy (records value) s = upon (markAnswer value s) (value ∷ []) []
+recordedBy nothing s = []
 
 -- the values that calls record
 unfoldable pub phandlesOf : List Request → Desk → List ℕ
 phandlesOf [] s = []
-phandlesOf (c ∷ cs) s = recordedBy c s ++ phandlesOf cs (after c s)
+phandlesOf (c ∷ cs) s = recordedBy (effect c) s ++ phandlesOf cs (after c s)
 
 -- ---- what accepted calls describe
 
+-- the event that an accepted call is, by what it does
+unfoldable pub told : Effect → List Event
+told opens = []
+told (sets-boot n) = []
+told (adds e) = e ∷ []
+told (records value) = has (phandleName ≔ valueBytes (phandleValue value)) ∷ []
+told nothing = []
+
 -- the event that an accepted call is
-unfoldable pub tells : Request → List Event
-tells (to-open numbers) = []
-tells (to-boot n) = []
-tells (to-begin name) = begins name ∷ []
-tells (to-end handle) = ends ∷ []
-tells (to-have name v) = has (name ≔ valueBytes v) ∷ []
-tells (to-mark value) = has (phandleName ≔ valueBytes (phandleValue value)) ∷ []
-tells to-finish = []
-tells to-show = []
+abbrev pub tells : Request → List Event
+tells c = told (effect c)
 
 -- the events of accepted calls
 unfoldable pub eventsOf : List Request → List Event
 eventsOf [] = []
 eventsOf (c ∷ cs) = tells c ++ eventsOf cs
 
+-- the boot number after an accepted call, by what it does
+unfoldable pub bootAfter : ℕ → Effect → ℕ
+bootAfter n opens = n
+bootAfter n (sets-boot m) = m
+bootAfter n (adds e) = n
+bootAfter n (records value) = n
+bootAfter n nothing = n
+
 -- the boot number after an accepted call
-unfoldable pub boots : ℕ → Request → ℕ
-boots n (to-open numbers) = n
-boots n (to-boot m) = m
-boots n (to-begin name) = n
-boots n (to-end handle) = n
-boots n (to-have name v) = n
-boots n (to-mark value) = n
-boots n to-finish = n
-boots n to-show = n
+abbrev pub boots : ℕ → Request → ℕ
+boots n c = bootAfter n (effect c)
 
 -- the boot number after accepted calls
 unfoldable pub bootOf : List Request → ℕ
@@ -120,44 +117,43 @@ depthOf es = foldl deepens 0 es
 unfoldable pub endedOf : List Event → Bool
 endedOf es = foldl closes false es
 
+-- a buffer whose used part has these contents
+pub record Filled (ceiling : ℕ) (contents : List ℕ) (room used : ℕ) (buffer : List ℕ) : Type 0 where
+  pub part : take used buffer ≡ contents
+  pub counted : used ≡ length contents
+  -- the usable length is that at opening, and no more is used
+  pub opened : room ≡ usable ceiling (length buffer)
+  pub within : used ≤ room
+
 -- what a desk holds while a run is open: of an opening's numbers, the accepted calls' events and boot number, and the recorded phandles
 pub record Holds (numbers : List ℕ) (es : List Event) (boot : ℕ) (phandles : List ℕ) (s : Desk) : Type 0 where
   pub unfinished : s .writer .finished ≡ false
-  -- the used part: 40 zeros, the reservations and the bytes of the accepted calls, in order
-  pub bytes : take (s .writer .«blob_used») (s .blob) ≡ zeros headerSize ++ (reservationBytes numbers ++ structureBytes (namesOf es) es)
+  -- the blob: 40 zeros, the reservations and the bytes of the accepted calls, in order
+  pub blob : Filled blobCeiling (zeros headerSize ++ (reservationBytes numbers ++ structureBytes (namesOf es) es)) (s .writer .«blob_room») (s .writer .«blob_used») (s .blob)
   -- 56 plus 16 for each reservation plus the sizes of the accepted calls
   pub used : s .writer .«blob_used» ≡ structureStart (count numbers) + eventsSize es
-  -- each name once, whole, in order of first accepted use
-  pub names : take (s .writer .«strings_used») (s .strings) ≡ joined (namesOf es)
-  pub names-used : s .writer .«strings_used» ≡ length (joined (namesOf es))
-  pub marks : take (s .writer .«phandles_used») (s .phandles) ≡ phandles
-  pub marks-used : s .writer .«phandles_used» ≡ length phandles
+  -- the strings: each name once, whole, in order of first accepted use
+  pub strings : Filled stringsCeiling (joined (namesOf es)) (s .writer .«strings_room») (s .writer .«strings_used») (s .strings)
+  pub marks : Filled phandlesCeiling phandles (s .writer .«phandles_room») (s .writer .«phandles_used») (s .phandles)
   pub depth : s .writer .«node_depth» ≡ depthOf es
   pub ended : s .writer .«node_ended» ≡ endedOf es
   pub boot-number : s .writer .«boot_cpuid_phys» ≡ boot
   pub reservations : s .writer .reservations ≡ count numbers
-  -- usable lengths are those at opening
-  pub blob-room : s .writer .«blob_room» ≡ usable blobCeiling (length (s .blob))
-  pub strings-room : s .writer .«strings_room» ≡ usable stringsCeiling (length (s .strings))
-  pub phandles-room : s .writer .«phandles_room» ≡ usable phandlesCeiling (length (s .phandles))
 
 -- ---- a run
 
 -- no opening among calls, and boot numbers of 32 bits, as the call's type has them
-unfoldable pub InRun : Request → Type 0
-InRun (to-open numbers) = ⊥
-InRun (to-boot n) = n < 2 ^ 32
-InRun (to-begin name) = Unit {0}
-InRun (to-end handle) = Unit {0}
-InRun (to-have name v) = Unit {0}
-InRun (to-mark value) = Unit {0}
-InRun to-finish = Unit {0}
-InRun to-show = Unit {0}
+unfoldable pub InRun : Effect → Type 0
+InRun opens = ⊥
+InRun (sets-boot n) = n < 2 ^ 32
+InRun (adds e) = Unit {0}
+InRun (records value) = Unit {0}
+InRun nothing = Unit {0}
 
 -- of every call
 unfoldable pub AllInRun : List Request → Type 0
 AllInRun [] = Unit {0}
-AllInRun (c ∷ cs) = InRun c × AllInRun cs
+AllInRun (c ∷ cs) = InRun (effect c) × AllInRun cs
 
 -- what calls ask for
 unfoldable pub allAsk : List Call → List Request
