@@ -14,14 +14,15 @@ use Rattle.fdt_header.specs.Header.{structureStart}
 use Rattle.fdt_format.specs.Reading.{reading}
 use Rattle.fdt_format.proofs.ReadBack.{read-blob}
 use Rattle.fdt_format.proofs.Strings.{Distinct, names-once}
+use Rattle.fdt_record.specs.declared.Answer.the-variants.{Misfit}
 use Rattle.fdt_record.specs.Answers.{accepts}
 use Rattle.fdt_opening.specs.Opening.{count}
 use Rattle.fdt_promises.specs.Calls.{Call, asks, to-have, Desk, answer, after, unaltered}
-use Rattle.fdt_promises.specs.Run.{phandlesOf, tells, eventsOf, bootOf, Holds, Run, allAsk, opened-desk, desk, history, description, Finishes, blob}
+use Rattle.fdt_promises.specs.Run.{phandlesOf, tells, eventsOf, bootOf, Holds, Fits, Misgiven, Run, allAsk, opened-desk, desk, history, description, Finishes, blob}
 use Rattle.fdt_promises.specs.Foreign.{AllRead, foreign}
 use Rattle.fdt_promises.specs.Starred.{allHold, starred}
 use Rattle.fdt_promises.proofs.Desks.{refused-after}
-use Rattle.fdt_promises.proofs.Described.{run-holds, run-shown, run-length, run-read, same-runs, same-history, same-kinds}
+use Rattle.fdt_promises.proofs.Described.{run-holds, run-fits, run-given, run-shown, run-length, run-read, same-runs, same-history, same-kinds}
 use Rattle.fdt_promises.proofs.Foreign.{foreign-read}
 use Rattle.fdt_promises.proofs.Starred.{starred-hold}
 
@@ -33,6 +34,14 @@ demand-1 c s = refused-after s (asks c)
 -- After every call of a run: what the used parts of the buffers and every figure of the record are, counted from the history.
 pub after-every-call : (r : Run) → desk r .writer .finished ≡ false → Holds (r .numbers) (eventsOf (history r)) (bootOf (history r)) (phandlesOf (allAsk (r .calls)) (opened-desk r)) (desk r)
 after-every-call = run-holds
+
+-- The record never stops fitting the run's own buffers: a call is answered 17 exactly when what it is given does not fit together,
+-- that is an odd count of reservation numbers, or string-list lengths that do not sum to the bytes.
+pub never-misfit : (r : Run) → desk r .writer .finished ≡ false → Fits (desk r)
+never-misfit = run-fits
+
+pub misfit-of-arguments : (r : Run) → desk r .writer .finished ≡ false → (c : Call) → (answer (asks c) (desk r) ≡ Misfit) ↔ Misgiven c
+misfit-of-arguments = run-given
 
 -- The names in the strings are there once each.
 pub each-name-once : (r : Run) → Distinct (namesOf (eventsOf (history r)))

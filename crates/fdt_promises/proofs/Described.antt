@@ -16,12 +16,14 @@ use Rattle.fdt_header.specs.Header.{structureStart}
 use Rattle.fdt_format.specs.Reading.{reading}
 use Rattle.fdt_format.proofs.ReadBack.{length-from, read-blob}
 use Rattle.fdt_format.proofs.Structure.{structure-size}
+use Rattle.fdt_record.specs.declared.Answer.the-variants.{Misfit}
 use Rattle.fdt_opening.specs.Opening.{count}
 use Rattle.fdt_opening.proofs.Opening.{OpeningFits, opened-fits}
 use Rattle.fdt_finish.proofs.Finishing.{finish-fits}
-use Rattle.fdt_promises.specs.Calls.{to-have, effect, answer}
-use Rattle.fdt_promises.specs.Run.{phandlesOf, told, tells, eventsOf, bootOf, Holds, reservationsOf, withNodes, describe, Run, allAsk, opened-desk, desk, history, description, Finishes, blob}
+use Rattle.fdt_promises.specs.Calls.{Call, asks, to-have, effect, answer}
+use Rattle.fdt_promises.specs.Run.{phandlesOf, told, tells, eventsOf, bootOf, Holds, Fits, Misgiven, reservationsOf, withNodes, describe, Run, allAsk, opened-desk, desk, history, description, Finishes, blob}
 use Rattle.fdt_promises.proofs.Ended.{count-paired, shown-bytes, nodes-told, well-formed}
+use Rattle.fdt_promises.proofs.Fitting.{open-fits, only-given}
 use Rattle.fdt_promises.proofs.Held.{Open}
 use Rattle.fdt_promises.proofs.Runs.{opened-open, runs-open, boot-small}
 
@@ -40,6 +42,13 @@ module _ (r : Run) where
 
   pub run-holds : desk r .writer .finished ≡ false → Holds (r .numbers) (eventsOf (history r)) (bootOf (history r)) (phandlesOf (allAsk (r .calls)) (opened-desk r)) (desk r)
   run-holds u = run-open u .holds
+
+  -- while it is open, 17 is answered only for what a call is given
+  pub run-fits : desk r .writer .finished ≡ false → Fits (desk r)
+  run-fits u = open-fits (run-open u)
+
+  pub run-given : desk r .writer .finished ≡ false → (c : Call) → (answer (asks c) (desk r) ≡ Misfit) ↔ Misgiven c
+  run-given u = only-given (run-open u)
 
   -- the numbers of its opening are pairs, each in order
   opening-fits : OpeningFits (length (r .before .blob)) (r .numbers)

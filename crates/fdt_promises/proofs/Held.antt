@@ -165,7 +165,7 @@ module _ {numbers : List ℕ} {es : List Event} {boot : ℕ} {marks : List ℕ} 
   booted-open n e = subst (Open numbers es n marks) (sym (booted-after s n e)) (carried-open n (s .writer .«phandles_used») refl (o .holds .marks))
 
   -- a phandle's value is recorded
-  marked-open : (value : ℕ) → markAnswer value s ≡ Done → Open numbers es boot (marks ++ (value ∷ [])) (marked s value)
+  pub marked-open : (value : ℕ) → markAnswer value s ≡ Done → Open numbers es boot (marks ++ (value ∷ [])) (marked s value)
   unfolding recorded
   marked-open value e =
       let f = record-fits (s .writer) (length (s .blob)) (s .strings) (s .phandles) value e in

@@ -4,6 +4,7 @@ pub mod Demands
 pub mod Described
 pub mod Desks
 pub mod Ended
+pub mod Fitting
 pub mod Foreign
 pub mod Growth
 pub mod Held

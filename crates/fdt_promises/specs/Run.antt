@@ -3,11 +3,11 @@ use mathlib.Core.Path.{_≡_}
 use mathlib.Core.Bool.{Bool, true, false}
 use mathlib.Core.List.{List, [], _∷_, _++_, foldl}
 use mathlib.Core.Option.{Option, none, some}
-use Prim.Native.Nat.{ℕ, _+_, _-_, _≤_, _<_, _^_}
+use Prim.Native.Nat.{ℕ, _+_, _-_, _%_, _≤_, _<_, _^_}
 use lib.ListN.{length, take}
 use Rattle.fdt_bytes.specs.Padding.{zeros}
 use Rattle.fdt_strings.specs.Entries.{joined}
-use Rattle.fdt_values.specs.Value.{valueBytes}
+use Rattle.fdt_values.specs.Value.{sum, valueBytes}
 use Rattle.fdt_format.specs.Blob.{namesOf, structureBytes, eventsSize}
 use Rattle.fdt_format.specs.Description.{_≔_, Nodes, Reservation, reserved, Description}
 use Rattle.fdt_format.specs.Events.{Event, begins, has, ends, nodesOf}
@@ -15,10 +15,11 @@ use Rattle.fdt_header.specs.Header.{headerSize, structureStart, reservationByte
 use Rattle.fdt_record.specs.declared.Answer.the-variants.{Done}
 use Rattle.fdt_record.specs.Answers.{upon}
 use Rattle.fdt_record.specs.Limits.{blobCeiling, stringsCeiling, phandlesCeiling, usable}
+use Rattle.fdt_record.specs.Misfits.{misfitRecord, misfitBlob, misfitStrings, misfitPhandles}
 use Rattle.fdt_opening.specs.Opening.{count}
 use Rattle.fdt_phandles.specs.Phandle.{phandleName, phandleValue}
 use Rattle.fdt_finish.specs.Shown.{shown}
-use Rattle.fdt_promises.specs.Calls.{Call, asks, Request, to-open, to-finish, Effect, opens, sets-boot, adds, records, nothing, effect, Desk, answer, after, markAnswer}
+use Rattle.fdt_promises.specs.Calls.{Call, new-with-mem-reserv, property-string-list, asks, Request, to-open, to-finish, Effect, opens, sets-boot, adds, records, nothing, effect, Desk, answer, after, markAnswer}
 
 -- ---- calls one after the other
 
@@ -191,3 +192,17 @@ Finishes r = answer to-finish (desk r) ≡ Done
 -- the blob that is shown then
 unfoldable pub blob : Run → List ℕ
 blob r = shown (after to-finish (desk r) .writer) (after to-finish (desk r) .blob)
+
+-- ---- misfit 17
+
+-- a record fits the buffers that it was opened over: no test of 17 finds fault with them
+pub record Fits (s : Desk) : Type 0 where
+  pub figures : misfitRecord (s .writer) ≡ false
+  pub blob : misfitBlob (s .writer) (length (s .blob)) ≡ false
+  pub strings : misfitStrings (s .writer) (s .strings) ≡ false
+  pub phandles : misfitPhandles (s .writer) (length (s .phandles)) ≡ false
+
+-- what a call is given does not fit together: an odd count of reservation numbers, or string-list lengths that don't sum to the bytes given
+pub data Misgiven : Call → Type 0 where
+  odd-count : (numbers : List ℕ) → length numbers % 2 ≡ 1 → Misgiven (new-with-mem-reserv numbers)
+  other-sum : (name joined lengths : List ℕ) → (sum lengths ≡ length joined → ⊥) → Misgiven (property-string-list name joined lengths)
