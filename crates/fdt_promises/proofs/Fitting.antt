@@ -5,7 +5,7 @@ use mathlib.Core.List.{List, [], _∷_, _++_}
 use mathlib.Core.Logic.{_↔_, _⊎_, inl, inr}
 use Prim.Native.Nat.{ℕ, zero, suc, _+_, _-_, _%_, _≤_, _<_}
 use native.Mathlib.Omega.{arith}
-use borrow.Author.Tests.{eq-eqb, ne-eqb, eqb-false, le-ltb}
+use borrow.Author.Tests.{eq-eqb, ne-eqb, le-ltb}
 use lib.Dec.{eqb}
 use lib.ListN.{length, getD, length-append}
 use lib.Seq.{getD-at, getD-take}
@@ -33,7 +33,7 @@ use Rattle.fdt_properties.specs.Property.{stateRows, nameRows, propertyRows, pr
 use Rattle.fdt_phandles.specs.Phandle.{phandleName, phandleValue, recordRows, recordAnswer, phandle}
 use Rattle.fdt_finish.specs.Boot.{bootAnswer}
 use Rattle.fdt_finish.specs.Finish.{finishRows, finishAnswer}
-use Rattle.fdt_promises.specs.Calls.{Call, new, new-with-mem-reserv, set-boot-cpuid-phys, begin-node, end-node, property, property-null, property-string, property-string-list, property-u32, property-u64, property-array-u32, property-array-u64, property-phandle, finish, show, asks, to-open, to-boot, to-begin, to-end, to-have, to-mark, to-finish, to-show, Desk, answer, markAnswer}
+use Rattle.fdt_promises.specs.Calls.{Call, new, new-with-mem-reserv, set-boot-cpuid-phys, begin-node, end-node, property, property-null, property-string, property-string-list, property-u32, property-u64, property-array-u32, property-array-u64, property-phandle, finish, show, asks, to-open, to-boot, to-begin, to-end, to-have, to-mark, to-finish, Desk, answer, markAnswer}
 use Rattle.fdt_promises.specs.Run.{Filled, Fits, Misgiven, odd-count, other-sum}
 use Rattle.fdt_promises.proofs.Desks.{marked-answer}
 use Rattle.fdt_promises.proofs.Held.{Open, marked-open}

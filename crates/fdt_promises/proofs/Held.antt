@@ -190,7 +190,7 @@ module _ {numbers : List ℕ} {es : List Event} {boot : ℕ} {marks : List ℕ} 
       go : (b : Bool) → accepts (markAnswer value s) ≡ b → Open numbers (es ++ told (records value)) boot (marks ++ recordedBy (records value) s) (after (to-mark value) s)
       go true t =
           let d = accepts-done (markAnswer value s) t in
-          rw (marked-after s value d, upon-done (markAnswer value s) (value ∷ []) [] d)
+          rw (marked-after s value d, upon-done (markAnswer value s) _ _ d)
           (had-open (marked-open o value d) phandleName (phandleValue value) (sym (marked-answer s value d) ∙ e))
       go false t = absurd (true≢false (ap accepts (sym e) ∙ refused-mark s value t))
 
