@@ -8,7 +8,7 @@ use borrow.Author.Tests.{leb-false}
 use lib.ListN.{length}
 use Rattle.fdt_bytes.specs.BigEndian.{bigEndian}
 use Rattle.fdt_bytes.specs.Padding.{padding, roundUp, zeros, padded}
-use Rattle.fdt_bytes.specs.Splice.{splice}
+use Rattle.fdt_bytes.specs.Splice.{over, splice}
 use Rattle.fdt_bytes.proofs.BigEndian.{length-bigEndian}
 use Rattle.fdt_bytes.proofs.Splice.{splice-three}
 use Rattle.fdt_strings.specs.Entries.{entry}
@@ -20,10 +20,9 @@ use Rattle.fdt_record.specs.declared.Answer.{Answer}
 use Rattle.fdt_record.specs.declared.Answer.the-variants.{Done}
 use Rattle.fdt_record.specs.declared.Record.{Record}
 use Rattle.fdt_record.specs.Answers.{accepts, upon}
-use Rattle.fdt_record.specs.Fields.{withUsedBlob, withDepth, withEnded}
 use Rattle.fdt_record.specs.Limits.{mostDepth}
 use Rattle.fdt_record.specs.Tests.{aloneRows, blobRows}
-use Rattle.fdt_record.proofs.Fits.{FitBlob, fit-blob, has-room}
+use Rattle.fdt_record.proofs.Fits.{FitBlob, fit-blob, not-overfull}
 use Rattle.fdt_record.proofs.Rows.{NoneHolds, Refusals, Exactly, exactly}
 use Rattle.fdt_nodes.specs.declared.Begun.{Begun}
 use Rattle.fdt_nodes.specs.Begin.{beginRows, beginAnswer, begunRecord, begin}
@@ -33,17 +32,23 @@ pub begin-parts : (name : List ℕ) → length (beginBytes name) ≡ 4 + (length
 unfolding roundUp
 begin-parts name = length-begin name
 
--- word 1, the stored name and the padding, one after the other
-pub put-begin : (used k : ℕ) (name blob b₁ b₂ b₃ : List ℕ) → b₁ ≡ splice used (bigEndian 4 beginToken) blob → b₂ ≡ splice (used + 4) (entry name) b₁ → b₃ ≡ splice (used + 4 + (length name + 1)) (zeros k) b₂ → k ≡ padding 4 (length name + 1) → used + length (beginBytes name) ≤ length blob → b₃ ≡ splice used (beginBytes name) blob
-unfolding beginBytes padded
-put-begin used k name blob b₁ b₂ b₃ e₁ e₂ e₃ p room =
+-- word 1 does not change what pads the stored name
+pub padding-after-word : (n : ℕ) → padding 4 (4 + n) ≡ padding 4 n
+unfolding padding
+padding-after-word n = omega arith
+
+-- word 1, the stored name and the padding, one after the other, into the rest of the blob
+pub put-begin : (name rest r₁ r₂ r₃ : List ℕ) → r₁ ≡ over (bigEndian 4 beginToken) rest → r₂ ≡ splice 4 (entry name) r₁ → r₃ ≡ splice (4 + (length name + 1)) (zeros (padding 4 (4 + (length name + 1)))) r₂ → length (beginBytes name) ≤ length rest → r₃ ≡ over (beginBytes name) rest
+unfolding splice beginBytes padded
+put-begin name rest r₁ r₂ r₃ e₁ e₂ e₃ room =
     let word = bigEndian 4 beginToken in
     let n : length word ≡ 4 = length-bigEndian 4 beginToken in
     let m : length (entry name) ≡ length name + 1 = length-entry name in
+    let k = padding 4 (4 + (length name + 1)) in
     let parts = begin-parts name in
-    e₃ ∙ ap (splice (used + 4 + (length name + 1)) (zeros k)) (e₂ ∙ ap (splice (used + 4) (entry name)) e₁)
-    ∙ splice-three used (used + 4) (used + 4 + (length name + 1)) word (entry name) (zeros k) blob (omega arith) (omega arith) (omega arith)
-    ∙ ap (λ (j : ℕ). splice used (word ++ (entry name ++ zeros j)) blob) (p ∙ ap (padding 4) (sym m))
+    e₃ ∙ ap (splice (4 + (length name + 1)) (zeros k)) (e₂ ∙ ap (splice 4 (entry name)) e₁)
+    ∙ splice-three 0 4 (4 + (length name + 1)) word (entry name) (zeros k) rest (omega arith) (omega arith) (omega arith)
+    ∙ ap (λ (j : ℕ). over (word ++ (entry name ++ zeros j)) rest) (padding-after-word (length name + 1) ∙ ap (padding 4) (sym m))
 
 -- every answer of the rows is a refusal
 refusals : (w : Record) (lent : ℕ) (name : List ℕ) → Refusals (beginRows w lent name)
@@ -63,14 +68,14 @@ module _ (w : Record) (lent : ℕ) (name : List ℕ) where
     pub room : w .«blob_used» + length (beginBytes name) ≤ w .«blob_room»
 
   pub begin-fits : beginAnswer w lent name ≡ Done → BeginFits
-  unfolding beginRows blobRows aloneRows NoneHolds
+  unfolding beginRows blobRows aloneRows NoneHolds begunRecord
   begin-fits e =
       let n = begin-exactly .accepted .0 e in
       record {
         blob = fit-blob w lent (n .1 .1 .0);
         depth = leb-false mostDepth (w .«node_depth») (n .1 .1 .1 .0);
         plain = n .1 .1 .1 .1 .0;
-        room = has-room w (length (beginBytes name)) (n .1 .1 .1 .1 .1 .1 .0);
+        room = not-overfull (begunRecord w name) (n .1 .1 .1 .1 .1 .1 .0);
       }
 
 -- What a begin gives, by its answer.
@@ -82,16 +87,9 @@ module _ (w : Record) (blob name : List ℕ) (a : Answer) (told : a ≡ beginAns
     after = upon b (begunRecord w name) w;
   }
 
-  abbrev begun : ℕ → Begun
-  begun n = record {
-    answer = a;
-    handle = record { 0 = w .«node_depth» + 1 };
-    after = withEnded false (withDepth (w .«node_depth» + 1) (withUsedBlob (w .«blob_used» + n) w));
-  }
-
-  pub begin-gives : accepts a ≡ true → (n : ℕ) → n ≡ length (beginBytes name) → begun n ≡ begin w blob name
+  pub begin-gives : accepts a ≡ true → (after : Record) → after ≡ begunRecord w name → record { answer = a; handle = record { 0 = after .«node_depth» }; after = after } ≡ begin w blob name
   unfolding begin begunRecord gives
-  begin-gives t n e = ap begun e ∙ sym (simp t) ∙ ap gives told
+  begin-gives t after e = ap (λ (r : Record). record { answer = a; handle = record { 0 = r .«node_depth» }; after = r }) e ∙ sym (simp t) ∙ ap gives told
 
   pub begin-nothing : accepts a ≡ false → record { answer = a; handle = record { 0 = 0 }; after = w } ≡ begin w blob name
   unfolding begin gives

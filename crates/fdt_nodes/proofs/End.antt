@@ -13,7 +13,7 @@ use Rattle.fdt_record.specs.declared.Record.{Record}
 use Rattle.fdt_record.specs.Answers.{accepts}
 use Rattle.fdt_record.specs.Fields.{withUsedBlob, withDepth, withEnded}
 use Rattle.fdt_record.specs.Tests.{aloneRows, blobRows}
-use Rattle.fdt_record.proofs.Fits.{neither, FitBlob, fit-blob, has-room}
+use Rattle.fdt_record.proofs.Fits.{neither, FitBlob, fit-blob, not-overfull}
 use Rattle.fdt_record.proofs.Rows.{NoneHolds, Refusals, Exactly, exactly}
 use Rattle.fdt_nodes.specs.End.{endRows, endAnswer, endedRecord}
 
@@ -34,14 +34,14 @@ module _ (w : Record) (lent handle : ℕ) where
     pub room : w .«blob_used» + 4 ≤ w .«blob_room»
 
   pub end-fits : endAnswer w lent handle ≡ Done → EndFits
-  unfolding endRows blobRows aloneRows NoneHolds
+  unfolding endRows blobRows aloneRows NoneHolds endedRecord
   end-fits e =
       let n = end-exactly .accepted .0 e in
       let z = eqb-false (w .«node_depth») 0 (neither (not (eqb handle (w .«node_depth»))) (eqb (w .«node_depth») 0) (n .1 .1 .1 .0) .1) in
       record {
         blob = fit-blob w lent (n .1 .1 .0);
         depth = omega arith;
-        room = omega (arith, has-room w (length endBytes) (n .1 .1 .1 .1 .0), length-end);
+        room = omega (arith, not-overfull (endedRecord w) (n .1 .1 .1 .1 .0), length-end);
       }
 
 -- the record after an accepted end, with its 4 bytes used

@@ -15,10 +15,14 @@ use Rattle.fdt_record.specs.declared.Record.{Record}
 use Rattle.fdt_record.specs.Answers.{upon}
 use Rattle.fdt_record.specs.Fields.{withUsedBlob, withDepth, withEnded}
 use Rattle.fdt_record.specs.Limits.{mostDepth}
-use Rattle.fdt_record.specs.Misfits.{noRoom}
+use Rattle.fdt_record.specs.Misfits.{overfull}
 use Rattle.fdt_record.specs.Rows.{Row, _⇒_, first}
 use Rattle.fdt_record.specs.Tests.{blobRows}
 use Rattle.fdt_nodes.specs.declared.Begun.{Begun}
+
+-- the record after an accepted begin: its bytes are used, the depth is one more, no node was ended last
+unfoldable pub begunRecord : Record → List ℕ → Record
+begunRecord w name = withEnded false (withDepth (w .«node_depth» + 1) (withUsedBlob (w .«blob_used» + length (beginBytes name)) w))
 
 -- the tests, in their order, of a call that is lent so many bytes
 unfoldable pub beginRows : Record → ℕ → List ℕ → List Row
@@ -27,16 +31,12 @@ beginRows w lent name =
     ++ (leb mostDepth (w .«node_depth») ⇒ NodeDepthTooLarge)
     ∷ (hasZero name ⇒ InvalidString)
     ∷ (not (matches nodeName name) ⇒ InvalidNodeName)
-    ∷ (noRoom w (length (beginBytes name)) ⇒ BlobRoom)
+    ∷ (overfull (begunRecord w name) ⇒ BlobRoom)
     ∷ []
 
 -- the answer
 unfoldable pub beginAnswer : Record → ℕ → List ℕ → Answer
 beginAnswer w lent name = first (beginRows w lent name)
-
--- the record after an accepted begin: its bytes are used, the depth is one more, no node was ended last
-unfoldable pub begunRecord : Record → List ℕ → Record
-begunRecord w name = withEnded false (withDepth (w .«node_depth» + 1) (withUsedBlob (w .«blob_used» + length (beginBytes name)) w))
 
 -- the answer, the handle (the depth just after the node began, 0 where refused) and the record
 unfoldable pub begin : Record → List ℕ → List ℕ → Begun

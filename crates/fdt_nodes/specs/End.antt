@@ -13,25 +13,25 @@ use Rattle.fdt_record.specs.declared.Outcome.{Outcome}
 use Rattle.fdt_record.specs.declared.Record.{Record}
 use Rattle.fdt_record.specs.Answers.{upon}
 use Rattle.fdt_record.specs.Fields.{withUsedBlob, withDepth, withEnded}
-use Rattle.fdt_record.specs.Misfits.{noRoom}
+use Rattle.fdt_record.specs.Misfits.{overfull}
 use Rattle.fdt_record.specs.Rows.{Row, _⇒_, first}
 use Rattle.fdt_record.specs.Tests.{blobRows}
+
+-- the record after an accepted end: its bytes are used, the depth is one less, a node was ended last
+unfoldable pub endedRecord : Record → Record
+endedRecord w = withEnded true (withDepth (w .«node_depth» - 1) (withUsedBlob (w .«blob_used» + length endBytes) w))
 
 -- the tests, in their order, of a call that is lent so many bytes
 unfoldable pub endRows : Record → ℕ → ℕ → List Row
 endRows w lent handle =
     blobRows w lent
     ++ ((not (eqb handle (w .«node_depth»)) || eqb (w .«node_depth») 0) ⇒ OutOfOrderEndNode)
-    ∷ (noRoom w (length endBytes) ⇒ BlobRoom)
+    ∷ (overfull (endedRecord w) ⇒ BlobRoom)
     ∷ []
 
 -- the answer
 unfoldable pub endAnswer : Record → ℕ → ℕ → Answer
 endAnswer w lent handle = first (endRows w lent handle)
-
--- the record after an accepted end: its bytes are used, the depth is one less, a node was ended last
-unfoldable pub endedRecord : Record → Record
-endedRecord w = withEnded true (withDepth (w .«node_depth» - 1) (withUsedBlob (w .«blob_used» + length endBytes) w))
 
 -- the answer and the record
 unfoldable pub end : Record → List ℕ → ℕ → Outcome

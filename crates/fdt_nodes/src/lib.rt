@@ -1,11 +1,12 @@
 // Beginning and ending a node.
 ghost use mathlib.Core.Path.{_≡_};
-ghost use Prim.Native.Nat.{_+_, _≤_};
+ghost use Prim.Native.Nat.{_≤_, _<_};
 ghost use lib.ListN.{length};
-ghost use Rattle.fdt_bytes.specs.Splice.{splice};
+ghost use Rattle.fdt_bytes.specs.Splice.{over};
 ghost use Rattle.fdt_format.specs.Tokens.{beginBytes};
-ghost use Rattle.fdt_nodes.specs.Begin.{beginAnswer, BeginOutcome};
-ghost use Rattle.fdt_nodes.specs.End.{endAnswer, EndOutcome};
+ghost use Rattle.fdt_record.specs.Limits.{blobCeiling, mostDepth};
+ghost use Rattle.fdt_nodes.specs.Begin.{begunRecord, beginAnswer, BeginOutcome};
+ghost use Rattle.fdt_nodes.specs.End.{endedRecord, endAnswer, EndOutcome};
 use fdt_format::FDT_BEGIN_NODE;
 use fdt_format::FDT_END_NODE;
 use fdt_record::Answer;
@@ -30,6 +31,19 @@ fn begin_size(name: &[u8]) -> usize
     4 + (stored + fdt_bytes::padding_of(stored, 4))
 }
 
+// The record that a begin leaves.
+fn after_begin(w: Record, name: &[u8]) -> Record
+    requires { ⌜ w .«blob_used» ≤ blobCeiling ⌝ }
+    requires { ⌜ w .«node_depth» ≤ mostDepth ⌝ }
+    ensures { λ r. ⌜ r ≡ begunRecord w (now (name .entry)) ⌝ }
+{
+    let mut after = w;
+    after.blob_used = w.blob_used + begin_size(name);
+    after.node_depth = w.node_depth + 1;
+    after.node_ended = false;
+    after
+}
+
 // The tests of a begin, in their order.
 fn begin_tests(w: Record, lent: usize, name: &[u8]) -> Answer
     ensures { λ r. ⌜ r ≡ beginAnswer w lent (now (name .entry)) ⌝ }
@@ -47,22 +61,21 @@ fn begin_tests(w: Record, lent: usize, name: &[u8]) -> Answer
     if !fdt_names::node_name_valid(name) {
         return Answer::InvalidNodeName;
     }
-    if fdt_record::no_room(w, begin_size(name)) {
+    if fdt_record::overfull(after_begin(w, name)) {
         return Answer::BlobRoom;
     }
     Answer::Done
 }
 
-// Writes a node's beginning into the rest of the blob, from the used length on.
-fn put_begin(blob: &mut [u8], used: usize, name: &[u8])
-    requires { ⌜ used + length (beginBytes (now name)) ≤ length (now blob) ⌝ }
-    ensures { λ _. ⌜ now (blob .exit) ≡ splice used (beginBytes (now (name .entry))) (now (blob .entry)) ⌝ }
+// Writes a node's beginning to the front of the rest of the blob.
+fn put_begin(rest: &mut [u8], name: &[u8])
+    requires { ⌜ length (beginBytes (now name)) ≤ length (now rest) ⌝ }
+    ensures { λ _. ⌜ now (rest .exit) ≡ over (beginBytes (now (name .entry))) (now (rest .entry)) ⌝ }
 {
-    fdt_bytes::update_u32(blob, used, FDT_BEGIN_NODE);
-    let at = used + 4;
-    fdt_strings::store_string(blob, at, name);
-    let stored = name.len() + 1;
-    fdt_bytes::zeros_at(blob, at + stored, fdt_bytes::padding_of(stored, 4));
+    fdt_bytes::append_u32(rest, FDT_BEGIN_NODE);
+    fdt_strings::store_string(rest, 4, name);
+    let len = 4 + (name.len() + 1);
+    fdt_bytes::align(&mut rest[len..], len, 4);
 }
 
 // Begins a node.
@@ -78,16 +91,26 @@ pub fn begin_node(w: Record, blob: &mut [u8], name: &[u8]) -> Begun
         };
     }
     let used = w.blob_used;
-    put_begin(blob, used, name);
-    let mut after = w;
-    after.blob_used = used + begin_size(name);
-    after.node_depth = w.node_depth + 1;
-    after.node_ended = false;
+    put_begin(&mut blob[used..], name);
+    let after = after_begin(w, name);
     Begun {
         answer,
-        handle: FdtWriterNode(w.node_depth + 1),
+        handle: FdtWriterNode(after.node_depth),
         after,
     }
+}
+
+// The record that an end leaves.
+fn after_end(w: Record) -> Record
+    requires { ⌜ w .«blob_used» ≤ blobCeiling ⌝ }
+    requires { ⌜ 0 < w .«node_depth» ⌝ }
+    ensures { λ r. ⌜ r ≡ endedRecord w ⌝ }
+{
+    let mut after = w;
+    after.blob_used = w.blob_used + 4;
+    after.node_depth = w.node_depth - 1;
+    after.node_ended = true;
+    after
 }
 
 // The tests of an end, in their order.
@@ -104,7 +127,7 @@ fn end_tests(w: Record, lent: usize, node: FdtWriterNode) -> Answer
     if w.node_depth == 0 {
         return Answer::OutOfOrderEndNode;
     }
-    if fdt_record::no_room(w, 4) {
+    if fdt_record::overfull(after_end(w)) {
         return Answer::BlobRoom;
     }
     Answer::Done
@@ -119,10 +142,9 @@ pub fn end_node(w: Record, blob: &mut [u8], node: FdtWriterNode) -> Outcome
         return Outcome { answer, after: w };
     }
     let used = w.blob_used;
-    fdt_bytes::update_u32(blob, used, FDT_END_NODE);
-    let mut after = w;
-    after.blob_used = used + 4;
-    after.node_depth = w.node_depth - 1;
-    after.node_ended = true;
-    Outcome { answer, after }
+    fdt_bytes::append_u32(&mut blob[used..], FDT_END_NODE);
+    Outcome {
+        answer,
+        after: after_end(w),
+    }
 }

@@ -23,7 +23,7 @@ use Rattle.fdt_record.specs.declared.Record.{Record}
 use Rattle.fdt_record.specs.Answers.{accepts}
 use Rattle.fdt_record.specs.Limits.{blobCeiling, mostReservations, usable}
 use Rattle.fdt_record.proofs.Answers.{upon-done, upon-refused, accepts-done}
-use Rattle.fdt_record.proofs.Fits.{usable-within}
+use Rattle.fdt_record.proofs.Fits.{usable-within, not-overfull}
 use Rattle.fdt_record.proofs.Rows.{NoneHolds, Refusals, Exactly, exactly}
 use Rattle.fdt_opening.specs.Opening.{count, someInvalid, openingRows, openingAnswer, openedRecord, closedRecord, openingBytes, opening, openingBlob, OpeningOutcome}
 
@@ -43,15 +43,15 @@ module _ (numbers : List ℕ) where
   length-openingBytes =
       simp (length-append, length-zeros, length-cells) (omega arith)
 
-module _ (lent : ℕ) (numbers : List ℕ) where
+module _ (blob strings phandles : ℕ) (numbers : List ℕ) where
   -- every answer of the tests is a refusal
-  pub opening-refusals : Refusals (openingRows lent numbers)
+  pub opening-refusals : Refusals (openingRows blob strings phandles numbers)
   unfolding openingRows Refusals accepts
   opening-refusals = (refl, (refl, (refl, (refl, (refl, tt)))))
 
-  pub opening-exactly : Exactly (openingRows lent numbers) (openingAnswer lent numbers)
+  pub opening-exactly : Exactly (openingRows blob strings phandles numbers) (openingAnswer blob strings phandles numbers)
   unfolding openingAnswer
-  opening-exactly = exactly (openingRows lent numbers) opening-refusals
+  opening-exactly = exactly (openingRows blob strings phandles numbers) opening-refusals
 
 -- what an accepted opening may rely on
 pub record OpeningFits (lent : ℕ) (numbers : List ℕ) : Type 0 where
@@ -62,12 +62,12 @@ pub record OpeningFits (lent : ℕ) (numbers : List ℕ) : Type 0 where
   pub started : structureStart (count numbers) ≤ usable blobCeiling lent
   pub room : 56 + 8 * length numbers ≤ lent
 
-pub opened-fits : (lent : ℕ) (numbers : List ℕ) → openingAnswer lent numbers ≡ Done → OpeningFits lent numbers
-unfolding openingRows NoneHolds
-opened-fits lent numbers e =
-    let n = opening-exactly lent numbers .accepted .0 e in
+pub opened-fits : (lent strings phandles : ℕ) (numbers : List ℕ) → openingAnswer lent strings phandles numbers ≡ Done → OpeningFits lent numbers
+unfolding openingRows NoneHolds openedRecord
+opened-fits lent strings phandles numbers e =
+    let n = opening-exactly lent strings phandles numbers .accepted .0 e in
     let even : length numbers % 2 ≡ 0 = eqb-true (length numbers % 2) 0 (not-false _ (n .0)) in
-    let room : structureStart (count numbers) ≤ usable blobCeiling lent = ltb-false (usable blobCeiling lent) (structureStart (count numbers)) (n .1 .1 .1 .1 .0) in
+    let room : structureStart (count numbers) ≤ usable blobCeiling lent = not-overfull (openedRecord lent strings phandles numbers) (n .1 .1 .1 .1 .0) in
     record {
       even = even;
       few = ltb-false mostReservations (count numbers) (n .1 .0);
@@ -77,26 +77,26 @@ opened-fits lent numbers e =
       room = omega (arith, usable-within blobCeiling lent .0);
     }
 
-module _ (blob numbers : List ℕ) where
+module _ (blob : List ℕ) (strings phandles : ℕ) (numbers : List ℕ) where
   -- what an accepted opening writes
-  pub accepted-blob : openingAnswer (length blob) numbers ≡ Done → openingBlob blob numbers ≡ splice 0 (openingBytes numbers) blob
+  pub accepted-blob : openingAnswer (length blob) strings phandles numbers ≡ Done → openingBlob blob strings phandles numbers ≡ splice 0 (openingBytes numbers) blob
   unfolding openingBlob
-  accepted-blob = upon-done (openingAnswer (length blob) numbers) (splice 0 (openingBytes numbers) blob) blob
+  accepted-blob = upon-done (openingAnswer (length blob) strings phandles numbers) (splice 0 (openingBytes numbers) blob) blob
 
   -- a refused opening writes nothing
-  pub refused-blob : accepts (openingAnswer (length blob) numbers) ≡ false → openingBlob blob numbers ≡ blob
+  pub refused-blob : accepts (openingAnswer (length blob) strings phandles numbers) ≡ false → openingBlob blob strings phandles numbers ≡ blob
   unfolding openingBlob
-  refused-blob = upon-refused (openingAnswer (length blob) numbers) (splice 0 (openingBytes numbers) blob) blob
+  refused-blob = upon-refused (openingAnswer (length blob) strings phandles numbers) (splice 0 (openingBytes numbers) blob) blob
 
   -- the blob keeps its length
-  pub length-openingBlob : length (openingBlob blob numbers) ≡ length blob
-  length-openingBlob = go (accepts (openingAnswer (length blob) numbers)) refl
+  pub length-openingBlob : length (openingBlob blob strings phandles numbers) ≡ length blob
+  length-openingBlob = go (accepts (openingAnswer (length blob) strings phandles numbers)) refl
     where
-      go : (b : Bool) → accepts (openingAnswer (length blob) numbers) ≡ b → length (openingBlob blob numbers) ≡ length blob
+      go : (b : Bool) → accepts (openingAnswer (length blob) strings phandles numbers) ≡ b → length (openingBlob blob strings phandles numbers) ≡ length blob
       go true e =
-          let d = accepts-done (openingAnswer (length blob) numbers) e in
+          let d = accepts-done (openingAnswer (length blob) strings phandles numbers) e in
           ap length (accepted-blob d)
-          ∙ length-splice 0 (openingBytes numbers) blob (omega (arith, length-openingBytes numbers, opened-fits (length blob) numbers d .room))
+          ∙ length-splice 0 (openingBytes numbers) blob (omega (arith, length-openingBytes numbers, opened-fits (length blob) strings phandles numbers d .room))
       go false e = ap length (refused-blob e)
 
 -- Any two outcomes of a call coincide.
@@ -108,24 +108,22 @@ module _ {blob : List ℕ} {strings phandles : ℕ} {numbers : List ℕ} {r s : 
   same-bytes = one .bytes ∙ sym (other .bytes)
 
 -- The outcome of a call that computed the answer.
-module _ (blob : List ℕ) (strings phandles : ℕ) (numbers : List ℕ) (answer : Answer) (computed : answer ≡ openingAnswer (length blob) numbers) where
+module _ (blob : List ℕ) (strings phandles : ℕ) (numbers : List ℕ) (answer : Answer) (computed : answer ≡ openingAnswer (length blob) strings phandles numbers) where
   pub refused-outcome : (after : Record) → accepts answer ≡ false → after ≡ closedRecord → OpeningOutcome blob strings phandles numbers (record { answer = answer; after = after }) blob
   unfolding opening
   refused-outcome after e f =
-      let g : accepts (openingAnswer (length blob) numbers) ≡ false = ap accepts (sym computed) ∙ e in
+      let g : accepts (openingAnswer (length blob) strings phandles numbers) ≡ false = ap accepts (sym computed) ∙ e in
       record {
         result = simp (f, computed, g);
-        bytes = sym (refused-blob blob numbers g);
+        bytes = sym (refused-blob blob strings phandles numbers g);
       }
 
-  pub accepted-outcome : (after : Record) (written : List ℕ) → accepts answer ≡ true → written ≡ splice 0 (openingBytes numbers) blob → after ≡ openedRecord (length written) strings phandles numbers → OpeningOutcome blob strings phandles numbers (record { answer = answer; after = after }) written
+  pub accepted-outcome : (after : Record) (written : List ℕ) → accepts answer ≡ true → written ≡ splice 0 (openingBytes numbers) blob → after ≡ openedRecord (length blob) strings phandles numbers → OpeningOutcome blob strings phandles numbers (record { answer = answer; after = after }) written
   unfolding opening
   accepted-outcome after written e w f =
       let d = sym computed ∙ accepts-done answer e in
-      let g : accepts (openingAnswer (length blob) numbers) ≡ true = ap accepts (sym computed) ∙ e in
-      let b = w ∙ sym (accepted-blob blob numbers d) in
-      let n : length written ≡ length blob = ap length b ∙ length-openingBlob blob numbers in
+      let g : accepts (openingAnswer (length blob) strings phandles numbers) ≡ true = ap accepts (sym computed) ∙ e in
       record {
-        result = simp (f, n, computed, g);
-        bytes = b;
+        result = simp (f, computed, g);
+        bytes = w ∙ sym (accepted-blob blob strings phandles numbers d);
       }

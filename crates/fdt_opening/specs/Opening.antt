@@ -16,6 +16,7 @@ use Rattle.fdt_record.specs.declared.Outcome.{Outcome}
 use Rattle.fdt_record.specs.declared.Record.{Record}
 use Rattle.fdt_record.specs.Answers.{upon}
 use Rattle.fdt_record.specs.Limits.{blobCeiling, stringsCeiling, phandlesCeiling, mostReservations, usable}
+use Rattle.fdt_record.specs.Misfits.{overfull}
 use Rattle.fdt_record.specs.Rows.{Row, _⇒_, first}
 
 -- how many reservations the numbers are, address and size in turn
@@ -25,20 +26,6 @@ count numbers = length numbers / 2
 -- some reservation is refused 8
 unfoldable pub someInvalid : List ℕ → Bool
 someInvalid numbers = some (count numbers) (λ k. invalid (start numbers k) (size numbers k))
-
--- the tests, in their order, of a call that is lent so many bytes
-unfoldable pub openingRows : ℕ → List ℕ → List Row
-openingRows lent numbers =
-    (not (eqb (length numbers % 2) 0) ⇒ Misfit)
-    ∷ (ltb mostReservations (count numbers) ⇒ TooManyReservations)
-    ∷ (someInvalid numbers ⇒ InvalidMemoryReservation)
-    ∷ (overlapping numbers ⇒ OverlappingMemoryReservations)
-    ∷ (ltb (usable blobCeiling lent) (structureStart (count numbers)) ⇒ BlobRoom)
-    ∷ []
-
--- the answer
-unfoldable pub openingAnswer : ℕ → List ℕ → Answer
-openingAnswer lent numbers = first (openingRows lent numbers)
 
 -- an accepted opening's record: n, the usable lengths and the used blob length 56 + 16n; all else 0, no node ended, not finished
 unfoldable pub openedRecord : ℕ → ℕ → ℕ → List ℕ → Record
@@ -55,6 +42,20 @@ openedRecord blob strings phandles numbers = record {
   «node_ended» = false;
   finished = false;
 }
+
+-- the tests, in their order, of a call that is lent buffers of these lengths
+unfoldable pub openingRows : ℕ → ℕ → ℕ → List ℕ → List Row
+openingRows blob strings phandles numbers =
+    (not (eqb (length numbers % 2) 0) ⇒ Misfit)
+    ∷ (ltb mostReservations (count numbers) ⇒ TooManyReservations)
+    ∷ (someInvalid numbers ⇒ InvalidMemoryReservation)
+    ∷ (overlapping numbers ⇒ OverlappingMemoryReservations)
+    ∷ (overfull (openedRecord blob strings phandles numbers) ⇒ BlobRoom)
+    ∷ []
+
+-- the answer
+unfoldable pub openingAnswer : ℕ → ℕ → ℕ → List ℕ → Answer
+openingAnswer blob strings phandles numbers = first (openingRows blob strings phandles numbers)
 
 -- a refused opening's record: all numbers 0 and marked finished
 unfoldable pub closedRecord : Record
@@ -79,15 +80,16 @@ openingBytes numbers = zeros headerSize ++ reservationBytes numbers
 -- the answer and the record, for the lengths of the three buffers
 unfoldable pub opening : ℕ → ℕ → ℕ → List ℕ → Outcome
 opening blob strings phandles numbers = record {
-  answer = openingAnswer blob numbers;
-  after = upon (openingAnswer blob numbers) (openedRecord blob strings phandles numbers) closedRecord;
+  answer = openingAnswer blob strings phandles numbers;
+  after = upon (openingAnswer blob strings phandles numbers) (openedRecord blob strings phandles numbers) closedRecord;
 }
 
 -- the blob afterwards: an accepted opening's bytes in front, and nothing else changed
-unfoldable pub openingBlob : List ℕ → List ℕ → List ℕ
-openingBlob blob numbers = upon (openingAnswer (length blob) numbers) (splice 0 (openingBytes numbers) blob) blob
+unfoldable pub openingBlob : List ℕ → ℕ → ℕ → List ℕ → List ℕ
+openingBlob blob strings phandles numbers =
+    upon (openingAnswer (length blob) strings phandles numbers) (splice 0 (openingBytes numbers) blob) blob
 
 -- the outcome of a call
 pub record OpeningOutcome (blob : List ℕ) (strings phandles : ℕ) (numbers : List ℕ) (r : Outcome) (after : List ℕ) : Type 0 where
   pub result : r ≡ opening (length blob) strings phandles numbers
-  pub bytes : after ≡ openingBlob blob numbers
+  pub bytes : after ≡ openingBlob blob strings phandles numbers

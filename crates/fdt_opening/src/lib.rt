@@ -3,7 +3,8 @@ ghost use mathlib.Core.Path.{_≡_};
 ghost use Prim.Native.Nat.{_+_, _*_, _≤_};
 ghost use lib.ListN.{length};
 ghost use Rattle.fdt_bytes.specs.Splice.{splice};
-ghost use Rattle.fdt_opening.specs.Opening.{someInvalid, openingAnswer, openingBytes, openedRecord, closedRecord, OpeningOutcome};
+ghost use Rattle.fdt_record.specs.Limits.{mostReservations};
+ghost use Rattle.fdt_opening.specs.Opening.{count, someInvalid, openingAnswer, openingBytes, openedRecord, closedRecord, OpeningOutcome};
 use fdt_header::Header;
 use fdt_record::Answer;
 use fdt_record::Outcome;
@@ -27,15 +28,35 @@ fn some_invalid(mem_reservations: &[u64]) -> bool
     false
 }
 
-// The tests of an opening, in their order.
-fn opening_tests(lent: usize, mem_reservations: &[u64]) -> Answer
-    ensures { λ r. ⌜ r ≡ openingAnswer lent (now («mem_reservations» .entry)) ⌝ }
+// The record that an accepted opening leaves.
+fn opened(blob: usize, strings: usize, phandles: usize, mem_reservations: &[u64]) -> Record
+    requires { ⌜ count (now «mem_reservations») ≤ mostReservations ⌝ }
+    ensures { λ r. ⌜ r ≡ openedRecord blob strings phandles (now («mem_reservations» .entry)) ⌝ }
 {
     let n = mem_reservations.len() / 2;
+    Record {
+        blob_room: fdt_record::usable_length(fdt_record::BLOB_CEILING, blob),
+        blob_used: fdt_header::structure_start(n),
+        strings_room: fdt_record::usable_length(fdt_record::STRINGS_CEILING, strings),
+        strings_used: 0,
+        phandles_room: fdt_record::usable_length(fdt_record::PHANDLES_CEILING, phandles),
+        phandles_used: 0,
+        reservations: n,
+        node_depth: 0,
+        boot_cpuid_phys: 0,
+        node_ended: false,
+        finished: false,
+    }
+}
+
+// The tests of an opening, in their order.
+fn opening_tests(blob: usize, strings: usize, phandles: usize, mem_reservations: &[u64]) -> Answer
+    ensures { λ r. ⌜ r ≡ openingAnswer blob strings phandles (now («mem_reservations» .entry)) ⌝ }
+{
     if mem_reservations.len() % 2 != 0 {
         return Answer::Misfit;
     }
-    if fdt_record::MAX_RESERVATIONS < n {
+    if fdt_record::MAX_RESERVATIONS < mem_reservations.len() / 2 {
         return Answer::TooManyReservations;
     }
     if some_invalid(mem_reservations) {
@@ -44,7 +65,7 @@ fn opening_tests(lent: usize, mem_reservations: &[u64]) -> Answer
     if fdt_reserve::check_overlapping(mem_reservations) {
         return Answer::OverlappingMemoryReservations;
     }
-    if fdt_record::usable_length(fdt_record::BLOB_CEILING, lent) < fdt_header::structure_start(n) {
+    if fdt_record::overfull(opened(blob, strings, phandles, mem_reservations)) {
         return Answer::BlobRoom;
     }
     Answer::Done
@@ -62,27 +83,6 @@ fn write_mem_rsvmap(blob: &mut [u8], mem_reservations: &[u64])
         Header::SIZE + 8 * mem_reservations.len(),
         fdt_header::RESERVATION_SIZE,
     );
-}
-
-// The record of an accepted opening.
-fn opened(blob: usize, strings: usize, phandles: usize, mem_reservations: &[u64]) -> Record
-    requires { ⌜ length (now «mem_reservations») ≤ 128 ⌝ }
-    ensures { λ r. ⌜ r ≡ openedRecord blob strings phandles (now («mem_reservations» .entry)) ⌝ }
-{
-    let n = mem_reservations.len() / 2;
-    Record {
-        blob_room: fdt_record::usable_length(fdt_record::BLOB_CEILING, blob),
-        blob_used: fdt_header::structure_start(n),
-        strings_room: fdt_record::usable_length(fdt_record::STRINGS_CEILING, strings),
-        strings_used: 0,
-        phandles_room: fdt_record::usable_length(fdt_record::PHANDLES_CEILING, phandles),
-        phandles_used: 0,
-        reservations: n,
-        node_depth: 0,
-        boot_cpuid_phys: 0,
-        node_ended: false,
-        finished: false,
-    }
 }
 
 // The record of a refused opening.
@@ -108,7 +108,8 @@ fn closed() -> Record
 pub fn open(blob: &mut [u8], strings: &[u8], phandles: &[u32], mem_reservations: &[u64]) -> Outcome
     ensures { λ r. ⌜ OpeningOutcome (now (blob .entry)) (length (now (strings .entry))) (length (now (phandles .entry))) (now («mem_reservations» .entry)) r (now (blob .exit)) ⌝ }
 {
-    let answer = opening_tests(blob.len(), mem_reservations);
+    let lent = blob.len();
+    let answer = opening_tests(lent, strings.len(), phandles.len(), mem_reservations);
     if !fdt_record::accepted(answer) {
         return Outcome {
             answer,
@@ -118,6 +119,6 @@ pub fn open(blob: &mut [u8], strings: &[u8], phandles: &[u32], mem_reservations:
     write_mem_rsvmap(blob, mem_reservations);
     Outcome {
         answer,
-        after: opened(blob.len(), strings.len(), phandles.len(), mem_reservations),
+        after: opened(lent, strings.len(), phandles.len(), mem_reservations),
     }
 }

@@ -1,7 +1,9 @@
 -- `open` meets its contract: an opening whose tests all fail has room for what it writes, and a refused one writes nothing.
-use mathlib.Core.Path.{sym, _∙_}
+use mathlib.Core.Path.{_≡_, sym, _∙_}
+use mathlib.Core.Bool.{true}
 use borrow.Author.Tests.{not-true, not-false}
 use lib.ListN.{length}
+use Rattle.fdt_record.specs.Answers.{accepts}
 use Rattle.fdt_record.proofs.Answers.{accepts-done}
 use Rattle.fdt_opening.proofs.Opening.{OpeningFits, opened-fits, refused-outcome, accepted-outcome}
 use borrow.Author.Needs.{needs}
@@ -9,33 +11,34 @@ use native.Mathlib.Omega.{arith}
 use Rattle.fdt_opening.proofs.open.Statement.{statement}
 use Rattle.fdt_opening.proofs.open.Tie as tie
 
--- what an accepted opening may rely on
-fits :
-    (c : tie.Else1) →
-    let a = c .before .before .before .before .before .before .before .args in
-    OpeningFits (length (a .blob .now)) (a .mem-reservations .now)
-fits c =
-    opened-fits _ _ (sym (c .before .before .opening-tests .ensures) ∙ accepts-done _ (sym (c .before .accepted .ensures) ∙ not-false _ (c .if1 .left)))
+-- where the call began, seen from where its tests were made
+abbrev start : tie.After-opening-tests → tie.Start
+start c = let k = c .before .before .before in k .before .before
+
+passed : (c : tie.Else1) → accepts (c .before .before .opening-tests .result) ≡ true
+passed c = sym (c .before .accepted .ensures) ∙ not-false _ (c .if1 .left)
+
+fits : (c : tie.Else1) → let a = start (c .before .before) .args in OpeningFits (length (a .blob .now)) (a .mem-reservations .now)
+fits c = opened-fits _ _ _ _ (sym (c .before .before .opening-tests .ensures) ∙ accepts-done _ (passed c))
 
 returns : tie.Need-returns
 returns c =
-    refused-outcome _ _ _ _ _ (c .before .before .before .opening-tests .ensures) _
-    (sym (c .before .before .accepted .ensures) ∙ not-true _ (c .before .if1 .taken))
+    let t = c .before in
+    refused-outcome _ _ _ _ _ (t .before .before .opening-tests .ensures) _
+    (sym (t .before .accepted .ensures) ∙ not-true _ (t .if1 .taken))
     (c .closed .ensures)
 
 write-mem-rsvmap-requires : tie.Need-write-mem-rsvmap-requires
 write-mem-rsvmap-requires c κs = fits (c .before) .room
 
 opened-requires : tie.Need-opened-requires
-opened-requires c κs = let f = fits (c .before .before .before .before) in omega (arith, f .even, f .few)
+opened-requires c κs = fits (c .before .before .before .before) .few
 
 returns-2 : tie.Need-returns-2
 returns-2 c =
-    let e = c .before .before .before .before .before in
-    accepted-outcome _ _ _ _ _ (e .before .before .opening-tests .ensures) _ _
-    (sym (e .before .accepted .ensures) ∙ not-false _ (e .if1 .left))
-    (c .before .before .before .write-mem-rsvmap .ensures)
-    (c .opened .ensures)
+    let written = c .before .before .before in
+    let e = written .before .before in
+    accepted-outcome _ _ _ _ _ (e .before .before .opening-tests .ensures) _ _ (passed e) (written .write-mem-rsvmap .ensures) (c .opened .ensures)
 
 pub open-spec : {M : Type 1} → statement M
 open-spec =
