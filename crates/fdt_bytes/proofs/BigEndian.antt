@@ -1,18 +1,18 @@
--- Laws of big-endian numbers, over the width: length, round trips, bytes, and a number in two halves.
+-- Laws of big-endian numbers, over the width: length, round trips, bytes, and a number in two parts, written and read.
 use mathlib.Core.Path.{_≡_, refl, sym, ap, _∙_}
 use mathlib.Core.Bool.{Bool, true, false, _&&_}
 use mathlib.Core.List.{List, [], _∷_, _++_, append-assoc, append-nil}
-use Prim.Native.Nat.{ℕ, zero, suc, _+_, _*_, _/_, _%_, _^_, _<_}
+use Prim.Native.Nat.{ℕ, zero, suc, _+_, _*_, _/_, _%_, _^_, _≤_, _<_}
 use native.Mathlib.Nat.{add-comm, add-zero, add-suc, mul-suc, mul-zero, div-one, div-div-eq-div-mul, mod-one, mod-lt, mod-eq-of-lt, add-mul, mul-assoc, one-le-pow, pow-suc, pow-succ'}
 use native.Mathlib.Numerals.{add-one}
 use native.Mathlib.Omega.{arith}
 use borrow.Author.Tests.{ltb-true, lt-ltb}
 use lib.Arith.{mod-mul, digits-div, digits-mod, digits-lt}
 use lib.Dec.{T, ltb, lit<}
-use lib.ListN.{length, take, getD, length-append}
-use lib.Seq.{take-suc}
+use lib.ListN.{length, take, drop, getD, length-append, length-drop}
+use lib.Seq.{take-suc, take-add, drop-cons, drop-drop, length-take-le}
 use lib.Pow.{areBytes, pow-add}
-use Rattle.fdt_bytes.specs.BigEndian.{bigEndian, fromBigEndian, cellBytes}
+use Rattle.fdt_bytes.specs.BigEndian.{bigEndian, fromBigEndian, numberAt, wordAt, wideAt, cellBytes}
 
 pub length-bigEndian : (width v : ℕ) → length (bigEndian width v) ≡ width
 unfolding bigEndian
@@ -143,3 +143,41 @@ pub cells-more : (width : ℕ) (vs : List ℕ) (i : ℕ) → i < length vs → c
 unfolding cellBytes
 cells-more width vs i h =
     sym (rw (add-one i, take-suc vs i 0 h) (cells-append width (take i vs) (getD vs i 0 ∷ []) ∙ ap (λ (l : List ℕ). cellBytes width (take i vs) ++ l) (append-nil (bigEndian width (getD vs i 0)))))
+
+-- ---- numbers at a place of bytes
+
+module _ (b : List ℕ) (at : ℕ) where
+  -- a number in two parts: the high digits stand first
+  pub read-in-two : (j k : ℕ) → at + (j + k) ≤ length b → numberAt (j + k) b at ≡ numberAt j b at * 256 ^ k + numberAt k b (at + j)
+  unfolding numberAt
+  read-in-two j k h =
+      let high = take j (drop at b) in
+      let low = take k (drop (at + j) b) in
+      let e : take (j + k) (drop at b) ≡ high ++ low = take-add j k (drop at b) ∙ ap (λ (l : List ℕ). high ++ take k l) (drop-drop j at b) in
+      let n : length low ≡ k = length-take-le k (drop (at + j) b) (omega (arith, length-drop (at + j) b)) in
+      ap fromBigEndian e ∙ from-append high low ∙ ap (λ (i : ℕ). fromBigEndian high * 256 ^ i + fromBigEndian low) n
+
+  -- a number of one byte
+  pub read-one : at < length b → numberAt 1 b at ≡ getD b at 0
+  unfolding numberAt fromBigEndian
+  read-one h = rw (drop-cons b at 0 h) (omega arith)
+
+module _ (b : List ℕ) (at : ℕ) where
+  -- a word is its four bytes
+  pub word-bytes : at + 4 ≤ length b → wordAt b at ≡ getD b at 0 * 0x100_0000 + getD b (at + 1) 0 * 0x1_0000 + getD b (at + 2) 0 * 0x100 + getD b (at + 3) 0
+  word-bytes h =
+      let byte : (i : ℕ) → i < 4 → numberAt 1 b (at + i) ≡ getD b (at + i) 0 = λ i l. read-one b (at + i) (omega arith) in
+      omega (
+        arith,
+        read-in-two b at 3 1 h,
+        read-in-two b at 2 1 (omega arith),
+        read-in-two b at 1 1 (omega arith),
+        read-one b at (omega arith),
+        byte 1 (lit< tt),
+        byte 2 (lit< tt),
+        byte 3 (lit< tt),
+      )
+
+  -- a number of 8 bytes is two words
+  pub two-words : at + 8 ≤ length b → wideAt b at ≡ wordAt b at * 0x1_0000_0000 + wordAt b (at + 4)
+  two-words h = read-in-two b at 4 4 h

@@ -1,9 +1,9 @@
-// Numbers, bytes and padding, written into the rest of a buffer that the caller lends.
+// Big-endian numbers, bytes and padding: written to a buffer that the caller lends, and numbers read back.
 ghost use mathlib.Core.Path.{_≡_};
-ghost use Prim.Native.Nat.{_+_, _*_, _≤_, _<_};
+ghost use Prim.Native.Nat.{_+_, _*_, _≤_, _<_, _^_};
 ghost use lib.ListN.{length};
-ghost use Rattle.fdt_bytes.specs.BigEndian.{bigEndian, cellBytes};
-ghost use Rattle.fdt_bytes.specs.Padding.{padding, zeros};
+ghost use Rattle.fdt_bytes.specs.BigEndian.{bigEndian, wordAt, wideAt, cellBytes};
+ghost use Rattle.fdt_bytes.specs.Padding.{padding, roundUp, zeros};
 ghost use Rattle.fdt_bytes.specs.Splice.{over, splice};
 
 // Writes a number of 4 bytes to the front of the rest.
@@ -27,6 +27,32 @@ pub fn append_u64(rest: &mut [u8], val: u64)
 {
     append_u32(rest, (val / 0x1_0000_0000) as u32);
     append_u32(&mut rest[4..], (val % 0x1_0000_0000) as u32);
+}
+
+// A byte as a word.
+fn widened(byte: u8) -> u32
+    ensures { λ r. ⌜ (r ≡ byte) × (r < 256) ⌝ }
+{
+    byte as u32
+}
+
+// Reads the number of 4 bytes at a place.
+pub fn read_u32(bytes: &[u8], at: usize) -> u32
+    requires { ⌜ at + 4 ≤ length (now bytes) ⌝ }
+    ensures { λ r. ⌜ r ≡ wordAt (now (bytes .entry)) at ⌝ }
+{
+    widened(bytes[at]) * 0x100_0000
+        + widened(bytes[at + 1]) * 0x1_0000
+        + widened(bytes[at + 2]) * 0x100
+        + widened(bytes[at + 3])
+}
+
+// Reads the number of 8 bytes at a place.
+pub fn read_u64(bytes: &[u8], at: usize) -> u64
+    requires { ⌜ at + 8 ≤ length (now bytes) ⌝ }
+    ensures { λ r. ⌜ r ≡ wideAt (now (bytes .entry)) at ⌝ }
+{
+    read_u32(bytes, at) as u64 * 0x1_0000_0000 + read_u32(bytes, at + 4) as u64
 }
 
 // Writes the bytes of a value to the front of the rest.
@@ -61,7 +87,15 @@ pub fn padding_of(len: usize, alignment: usize) -> usize
     alignment - offset
 }
 
-// Writes zeros to the front of the rest until the length, of which the rest is what follows, is a multiple of the alignment.
+// A length rounded up to a multiple of the alignment.
+pub fn round_up(len: usize, alignment: usize) -> usize
+    requires { ⌜ (0 < alignment) × (len + alignment < 2 ^ 64) ⌝ }
+    ensures { λ r. ⌜ r ≡ roundUp alignment len ⌝ }
+{
+    len + padding_of(len, alignment)
+}
+
+// Writes zeros to the front of the rest: as many as bring the length before it to a multiple of the alignment.
 pub fn align(rest: &mut [u8], len: usize, alignment: usize)
     requires { ⌜ 0 < alignment ⌝ }
     requires { ⌜ padding alignment len ≤ length (now rest) ⌝ }

@@ -6,9 +6,9 @@ use Prim.Native.Nat.{ℕ, _+_, _*_, _%_, _≤_, _<_, _^_}
 use native.Mathlib.Omega.{arith}
 use borrow.Author.Tests.{eq-eqb, le-leb}
 use lib.ListN.{length, getD}
+use Rattle.fdt_bytes.specs.BigEndian.{wordAt}
 use Rattle.fdt_format.specs.declared.Areas.{Areas}
 use Rattle.fdt_header.specs.Header.{magic, version, lastCompatible, headerSize, structureStart, headerWords, headerBytes}
-use Rattle.fdt_format.specs.Step.{wordAt}
 use Rattle.fdt_format.specs.Reading.{areasOf, goodWords, goodAreas, goodHeader}
 use Rattle.fdt_format.proofs.Words.{BytesAt, cell-at}
 
@@ -25,7 +25,7 @@ areasFrom n strings stringsSize boot = record {
 
 module _ (b : List ℕ) (n strings stringsSize boot : ℕ) (h : BytesAt b 0 (headerBytes n strings stringsSize boot)) (order : structureStart n ≤ strings) (total : length b ≡ strings + stringsSize) (small : length b < 2 ^ 32) (boots : boot < 2 ^ 32) where
   word : (k to : ℕ) → 4 * k ≡ to → k < 10 → getD (headerWords n strings stringsSize boot) k 0 < 2 ^ 32 → wordAt b to ≡ getD (headerWords n strings stringsSize boot) k 0
-  unfolding wordAt headerBytes headerWords
+  unfolding headerBytes headerWords
   word k to e i l = cell-at 4 (headerWords n strings stringsSize boot) k to h i (omega arith) (omega arith)
 
   pub areas-read : areasOf b ≡ areasFrom n strings stringsSize boot

@@ -8,13 +8,13 @@ use native.Mathlib.Omega.{arith}
 use borrow.Author.Tests.{ne-eqb, eqb-true}
 use lib.Dec.{eqb}
 use lib.ListN.{length, length-append}
-use Rattle.fdt_bytes.specs.BigEndian.{bigEndian, cellBytes}
+use Rattle.fdt_bytes.specs.BigEndian.{bigEndian, wideAt, cellBytes}
 use Rattle.fdt_bytes.specs.Padding.{zeros}
 use Rattle.fdt_bytes.proofs.BigEndian.{length-cells, cells-append}
 use Rattle.fdt_bytes.proofs.Padding.{length-zeros}
 use Rattle.fdt_format.specs.Description.{Reservation, reserved}
 use Rattle.fdt_header.specs.Header.{reservationBytes}
-use Rattle.fdt_format.specs.Reading.{wideAt, reservation, reservationsAt}
+use Rattle.fdt_format.specs.Reading.{reservation, reservationsAt}
 use Rattle.fdt_format.specs.Blob.{numbersOf, AllTold}
 use Rattle.fdt_format.proofs.Walks.{skip, hit}
 use Rattle.fdt_format.proofs.Words.{BytesAt, bytes-left, bytes-right, cell-at}
@@ -54,7 +54,6 @@ no-end address size h = go (eqb address 0) refl
 module _ (b : List ℕ) where
   -- a pair of numbers
   pair-at : (address size at : ℕ) (more : List ℕ) → address < 2 ^ 64 → size < 2 ^ 64 → BytesAt b at (cellBytes 8 (address ∷ size ∷ more)) → (wideAt b at ≡ address) × (wideAt b (at + 8) ≡ size)
-  unfolding wideAt
   pair-at address size at more i j h = (
     cell-at 8 (address ∷ size ∷ more) 0 at h (omega arith) (omega arith) (omega arith),
     cell-at 8 (address ∷ size ∷ more) 1 (at + 8) h (omega arith) (omega arith) (omega arith),

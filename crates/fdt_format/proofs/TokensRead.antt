@@ -6,7 +6,7 @@ use Prim.Native.Nat.{ℕ, _+_, _-_, _%_, _≤_, _<_, _^_}
 use native.Mathlib.Omega.{arith}
 use borrow.Author.Tests.{lt-leb, le-ltb, eq-eqb, ne-eqb}
 use lib.ListN.{length}
-use Rattle.fdt_bytes.specs.BigEndian.{bigEndian, cellBytes}
+use Rattle.fdt_bytes.specs.BigEndian.{bigEndian, wordAt, cellBytes}
 use Rattle.fdt_bytes.specs.Padding.{padding, roundUp, zeros, padded}
 use Rattle.fdt_bytes.proofs.BigEndian.{length-bigEndian, length-cells}
 use Rattle.fdt_strings.specs.Entries.{entry, NoZero}
@@ -17,7 +17,7 @@ use Rattle.fdt_format.specs.declared.Step.the-variants as step
 use Rattle.fdt_format.specs.Description.{_≔_}
 use Rattle.fdt_format.specs.Events.{Event, begins, has, ends}
 use Rattle.fdt_format.specs.Tokens.{beginToken, endToken, propertyToken, finalToken, beginBytes, propertyBytes, endBytes, finalBytes}
-use Rattle.fdt_format.specs.Step.{wordAt, zeroFrom, beginAt, propertyAt, endAt, finalAt, stepAt}
+use Rattle.fdt_format.specs.Step.{zeroFrom, beginAt, propertyAt, endAt, finalAt, stepAt}
 use Rattle.fdt_format.specs.Reading.{eventAt}
 use Rattle.fdt_format.specs.Blob.{offsetOf, eventSize}
 use Rattle.fdt_format.proofs.Named.{zero-found, name-read}
@@ -57,7 +57,6 @@ round-from at n m = omega arith
 
 -- a word that was written is read
 pub word-at : {b : List ℕ} {at : ℕ} (v : ℕ) → BytesAt b at (bigEndian 4 v) → v < 2 ^ 32 → wordAt b at ≡ v
-unfolding wordAt
 word-at v h l = number-at 4 v h (omega arith)
 
 -- ---- the entries of events
@@ -122,7 +121,7 @@ module _ (b : List ℕ) (a : Areas) (names : List (List ℕ)) (s : State) where
       }
 
   pub property-read : (name value : List ℕ) → length b < 2 ^ 32 → BytesAt b (s .at) (propertyBytes (offsetOf names name) value) → s .at + eventSize (has (name ≔ value)) ≤ a .«structure_end» → s .«takes_property» ≡ true → Named b a names name → Read b a names s (has (name ≔ value))
-  unfolding propertyBytes padded entry stepAt propertyAt entryOf after depthAfter takesAfter eventSize wordAt
+  unfolding propertyBytes padded entry stepAt propertyAt entryOf after depthAfter takesAfter eventSize
   property-read name value small h le room n =
       let offset = offsetOf names name in
       let words : List ℕ = propertyToken ∷ length value ∷ offset ∷ [] in

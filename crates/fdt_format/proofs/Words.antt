@@ -6,7 +6,7 @@ use native.Mathlib.Nat.{mul-suc, mul-zero}
 use native.Mathlib.Omega.{arith}
 use lib.ListN.{length, take, drop, getD, length-append}
 use lib.Seq.{take-at, drop-at}
-use Rattle.fdt_bytes.specs.BigEndian.{bigEndian, fromBigEndian, cellBytes}
+use Rattle.fdt_bytes.specs.BigEndian.{bigEndian, fromBigEndian, numberAt, cellBytes}
 use Rattle.fdt_bytes.proofs.BigEndian.{length-bigEndian, round-trip}
 
 -- what stands at a place of bytes: these, and then others
@@ -40,16 +40,17 @@ module _ {b : List ℕ} {at : ℕ} (bs cs : List ℕ) (h : BytesAt b at (bs ++ c
   }
 
 -- a number of any width
-pub number-at : {b : List ℕ} {at : ℕ} (width v : ℕ) → BytesAt b at (bigEndian width v) → v < 256 ^ width → fromBigEndian (take width (drop at b)) ≡ v
+pub number-at : {b : List ℕ} {at : ℕ} (width v : ℕ) → BytesAt b at (bigEndian width v) → v < 256 ^ width → numberAt width b at ≡ v
+unfolding numberAt
 number-at width v h l = ap fromBigEndian (bytes-take h width (length-bigEndian width v)) ∙ round-trip width v l
 
 -- the k-th number of several
-pub cell-at : {b : List ℕ} {at : ℕ} (width : ℕ) (vs : List ℕ) (k to : ℕ) → BytesAt b at (cellBytes width vs) → k < length vs → getD vs k 0 < 256 ^ width → at + width * k ≡ to → fromBigEndian (take width (drop to b)) ≡ getD vs k 0
+pub cell-at : {b : List ℕ} {at : ℕ} (width : ℕ) (vs : List ℕ) (k to : ℕ) → BytesAt b at (cellBytes width vs) → k < length vs → getD vs k 0 < 256 ^ width → at + width * k ≡ to → numberAt width b to ≡ getD vs k 0
 unfolding cellBytes
 cell-at width [] k to h i l e = absurd (omega arith)
 cell-at {b} {at} width (v ∷ vs) zero to h i l e =
     let f : to ≡ at = omega (arith, mul-zero width) in
-    ap (λ (n : ℕ). fromBigEndian (take width (drop n b))) f ∙ number-at width v (bytes-left (bigEndian width v) (cellBytes width vs) h) l
+    ap (numberAt width b) f ∙ number-at width v (bytes-left (bigEndian width v) (cellBytes width vs) h) l
 cell-at {b} {at} width (v ∷ vs) (suc k) to h i l e =
     let rest = bytes-right (bigEndian width v) (cellBytes width vs) h (at + width) (ap (λ (n : ℕ). at + n) (length-bigEndian width v)) in
     cell-at width vs k to rest (omega arith) l (omega (arith, mul-suc width k))

@@ -5,13 +5,13 @@ use mathlib.Core.Option.{Option, none, some}
 use Prim.Native.Nat.{ℕ, zero, suc, _+_, _-_, _/_, _%_}
 use lib.Dec.{eqb, leb}
 use lib.ListN.{length, take, drop}
-use Rattle.fdt_bytes.specs.BigEndian.{fromBigEndian}
+use Rattle.fdt_bytes.specs.BigEndian.{wordAt, wideAt}
 use Rattle.fdt_format.specs.declared.Areas.{Areas}
 use Rattle.fdt_format.specs.declared.Entry.{Entry}
 use Rattle.fdt_format.specs.Description.{Property, _≔_, Nodes, Reservation, reserved, Description}
 use Rattle.fdt_format.specs.Events.{Event, begins, has, ends, nodesOf}
 use Rattle.fdt_header.specs.Header.{magic, version, lastCompatible, headerSize}
-use Rattle.fdt_format.specs.Step.{pick, wordAt}
+use Rattle.fdt_format.specs.Step.{pick}
 use Rattle.fdt_format.specs.Tokens.{beginToken, endToken}
 use Rattle.fdt_format.specs.Walk.{Walk, bad, good, walk, start}
 
@@ -47,10 +47,6 @@ goodAreas a n =
 -- both
 unfoldable pub goodHeader : List ℕ → Bool
 goodHeader b = goodWords b && goodAreas (areasOf b) (length b)
-
--- the number of 8 bytes at a place
-unfoldable pub wideAt : List ℕ → ℕ → ℕ
-wideAt b at = fromBigEndian (take 8 (drop at b))
 
 -- a reservation in front of others
 unfoldable pub reservation : ℕ → ℕ → Option (List Reservation) → Option (List Reservation)

@@ -3,8 +3,8 @@ use mathlib.Core.Bool.{Bool, true, false}
 use mathlib.Core.List.{List}
 use Prim.Native.Nat.{ℕ, zero, suc, _+_, _-_}
 use lib.Dec.{eqb, leb, ltb}
-use lib.ListN.{getD, take, drop}
-use Rattle.fdt_bytes.specs.BigEndian.{fromBigEndian}
+use lib.ListN.{getD}
+use Rattle.fdt_bytes.specs.BigEndian.{wordAt}
 use Rattle.fdt_bytes.specs.Padding.{roundUp}
 use Rattle.fdt_format.specs.declared.Areas.{Areas}
 use Rattle.fdt_format.specs.declared.Entry.{Entry}
@@ -25,10 +25,6 @@ disorder = 23
 -- and a name offset that meets no 0
 abbrev pub nameless : ℕ
 nameless = 24
-
--- the word at a place
-unfoldable pub wordAt : List ℕ → ℕ → ℕ
-wordAt b at = fromBigEndian (take 4 (drop at b))
 
 -- the first place from `at` on that holds a 0, or the place k further
 unfoldable pub zeroFrom : List ℕ → ℕ → ℕ → ℕ

@@ -7,9 +7,10 @@ use Prim.Native.Nat.{ℕ, suc, _+_, _-_, _<_}
 use native.Mathlib.Omega.{arith}
 use lib.Dec.{eqb}
 use lib.ListN.{length}
+use Rattle.fdt_bytes.specs.BigEndian.{wideAt}
 use Rattle.fdt_format.specs.Description.{Reservation}
 use Rattle.fdt_format.specs.Step.{pick}
-use Rattle.fdt_format.specs.Reading.{wideAt, reservation, reservationsAt}
+use Rattle.fdt_format.specs.Reading.{reservation, reservationsAt}
 use Rattle.fdt_format.proofs.Walks.{skip, hit}
 use Rattle.fdt_read_header.specs.declared.Reserved.{Reserved}
 use Rattle.fdt_read_header.specs.declared.Reserved.the-variants as reserved

@@ -1,15 +1,16 @@
 // The header of a lent blob, the areas that it names, and its reservations.
+use fdt_bytes::read_u32;
+use fdt_bytes::read_u64;
 use fdt_format::Areas;
 use fdt_header::Header;
 use fdt_header::RESERVATION_SIZE;
-use fdt_read_token::word_at;
 ghost use mathlib.Core.Path.{_≡_};
 ghost use mathlib.Core.Bool.{_&&_};
 ghost use Prim.Native.Nat.{_+_, _*_, _≤_, _<_, _^_};
 ghost use lib.Dec.{eqb};
 ghost use lib.ListN.{length};
-ghost use Rattle.fdt_format.specs.Reading.{areasOf, goodWords, goodAreas, wideAt, reservationsAt, readReservations};
-ghost use Rattle.fdt_format.specs.Step.{wordAt};
+ghost use Rattle.fdt_bytes.specs.BigEndian.{wordAt, wideAt};
+ghost use Rattle.fdt_format.specs.Reading.{areasOf, goodWords, goodAreas, reservationsAt, readReservations};
 ghost use Rattle.fdt_read_header.specs.Counted.{counted};
 
 // How many reservations there are before the all-zero pair, or none where there is no such pair.
@@ -25,16 +26,16 @@ pub fn good_words(blob: &[u8]) -> bool
     if blob.len() < Header::SIZE {
         return false;
     }
-    if word_at(blob, 0) != Header::MAGIC {
+    if read_u32(blob, 0) != Header::MAGIC {
         return false;
     }
-    if word_at(blob, 4) as usize != blob.len() {
+    if read_u32(blob, 4) as usize != blob.len() {
         return false;
     }
-    if word_at(blob, 20) != Header::VERSION {
+    if read_u32(blob, 20) != Header::VERSION {
         return false;
     }
-    word_at(blob, 24) == Header::LAST_COMP_VERSION
+    read_u32(blob, 24) == Header::LAST_COMP_VERSION
 }
 
 // The word at a place, as a number of bytes.
@@ -42,7 +43,7 @@ fn size_at(blob: &[u8], at: usize) -> usize
     requires { ⌜ at + 4 ≤ length (now blob) ⌝ }
     ensures { λ r. ⌜ (r ≡ wordAt (now (blob .entry)) at) × (r < 2 ^ 32) ⌝ }
 {
-    word_at(blob, at) as usize
+    read_u32(blob, at) as usize
 }
 
 // The areas that a header names, and the boot number.
@@ -58,7 +59,7 @@ pub fn areas_of(blob: &[u8]) -> Areas
         structure_end: structure + size_at(blob, 36),
         strings,
         strings_end: strings + size_at(blob, 32),
-        boot: word_at(blob, 28),
+        boot: read_u32(blob, 28),
     }
 }
 
@@ -78,23 +79,15 @@ pub fn good_areas(a: Areas, length: usize) -> bool
     a.strings_end <= length
 }
 
-// The number of 8 bytes at a place.
-pub fn wide_at(blob: &[u8], at: usize) -> u64
-    requires { ⌜ at + 8 ≤ length (now blob) ⌝ }
-    ensures { λ r. ⌜ r ≡ wideAt (now (blob .entry)) at ⌝ }
-{
-    word_at(blob, at) as u64 * 0x1_0000_0000 + word_at(blob, at + 4) as u64
-}
-
 // Whether the reservation at a place is the all-zero pair.
 fn zero_pair(blob: &[u8], at: usize) -> bool
     requires { ⌜ at + 16 ≤ length (now blob) ⌝ }
     ensures { λ r. ⌜ r ≡ (eqb (wideAt (now (blob .entry)) at) 0 && eqb (wideAt (now (blob .entry)) (at + 8)) 0) ⌝ }
 {
-    if wide_at(blob, at) != 0 {
+    if read_u64(blob, at) != 0 {
         return false;
     }
-    wide_at(blob, at + 8) == 0
+    read_u64(blob, at + 8) == 0
 }
 
 // How many reservations begin at a place before the all-zero pair, which must be one of `most` pairs.

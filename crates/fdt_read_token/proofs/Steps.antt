@@ -4,10 +4,11 @@ use mathlib.Core.Bool.{true, false}
 use mathlib.Core.List.{List}
 use Prim.Native.Nat.{ℕ, _-_}
 use lib.Dec.{ltb}
+use Rattle.fdt_bytes.specs.BigEndian.{wordAt}
 use Rattle.fdt_format.specs.declared.Areas.{Areas}
 use Rattle.fdt_format.specs.declared.State.{State}
 use Rattle.fdt_format.specs.declared.Step.the-variants as step
-use Rattle.fdt_format.specs.Step.{pick, disorder, wordAt, beginAt, propertyAt, endAt, finalAt, stepAt}
+use Rattle.fdt_format.specs.Step.{pick, disorder, beginAt, propertyAt, endAt, finalAt, stepAt}
 use Rattle.fdt_format.specs.Tokens.{beginToken, endToken, propertyToken, finalToken}
 
 module _ (b : List ℕ) (a : Areas) (s : State) (whole : ltb (a .«structure_end» - s .at) 4 ≡ false) where

@@ -1,4 +1,6 @@
 // One token of a lent blob: what stands at a state of the reading.
+use fdt_bytes::read_u32;
+use fdt_bytes::round_up;
 use fdt_format::Areas;
 use fdt_format::Entry;
 use fdt_format::FDT_BEGIN_NODE;
@@ -10,8 +12,7 @@ use fdt_format::Step;
 ghost use mathlib.Core.Path.{_≡_};
 ghost use Prim.Native.Nat.{_+_, _-_, _≤_, _<_, _^_};
 ghost use lib.ListN.{length};
-ghost use Rattle.fdt_bytes.specs.Padding.{roundUp};
-ghost use Rattle.fdt_format.specs.Step.{wordAt, zeroFrom, beginAt, propertyAt, endAt, finalAt, stepAt};
+ghost use Rattle.fdt_format.specs.Step.{zeroFrom, beginAt, propertyAt, endAt, finalAt, stepAt};
 ghost use Rattle.fdt_read_token.specs.Inside.{Inside, Fits};
 
 // A token out of order, or one that is not whole.
@@ -19,24 +20,6 @@ pub const DISORDER: u32 = 23;
 
 // A name offset that meets no 0.
 pub const NAMELESS: u32 = 24;
-
-// A byte as a word.
-fn wide(x: u8) -> u32
-    ensures { λ r. ⌜ (r ≡ x) × (r < 256) ⌝ }
-{
-    x as u32
-}
-
-// The word at a place.
-pub fn word_at(blob: &[u8], at: usize) -> u32
-    requires { ⌜ at + 4 ≤ length (now blob) ⌝ }
-    ensures { λ r. ⌜ r ≡ wordAt (now (blob .entry)) at ⌝ }
-{
-    wide(blob[at]) * 0x100_0000
-        + wide(blob[at + 1]) * 0x1_0000
-        + wide(blob[at + 2]) * 0x100
-        + wide(blob[at + 3])
-}
 
 // The first place from `at` on and before `end` that holds a 0; otherwise the later of the two.
 pub fn zero_from(blob: &[u8], at: usize, end: usize) -> usize
@@ -47,14 +30,6 @@ pub fn zero_from(blob: &[u8], at: usize, end: usize) -> usize
         return at;
     }
     bytes::scan::find(blob, at, end, 0)
-}
-
-// A length rounded up to a multiple of 4.
-fn round_up(n: usize) -> usize
-    requires { ⌜ n < 2 ^ 40 ⌝ }
-    ensures { λ r. ⌜ r ≡ roundUp 4 n ⌝ }
-{
-    n + fdt_bytes::padding_of(n, 4)
 }
 
 // A node that begins at a state: its name and the padding end inside the structure.
@@ -68,7 +43,7 @@ fn begin_at(blob: &[u8], a: Areas, s: State) -> Step
     if a.structure_end <= zero {
         return Step::Bad(DISORDER);
     }
-    let next = round_up(zero + 1);
+    let next = round_up(zero + 1, 4);
     if a.structure_end < next {
         return Step::Bad(DISORDER);
     }
@@ -97,12 +72,12 @@ fn property_at(blob: &[u8], a: Areas, s: State) -> Step
     if left < 12 {
         return Step::Bad(DISORDER);
     }
-    let size = word_at(blob, at + 4);
-    let whole = round_up(size as usize);
+    let size = read_u32(blob, at + 4);
+    let whole = round_up(size as usize, 4);
     if left - 12 < whole {
         return Step::Bad(DISORDER);
     }
-    let name = a.strings + word_at(blob, at + 8) as usize;
+    let name = a.strings + read_u32(blob, at + 8) as usize;
     if a.strings_end <= zero_from(blob, name, a.strings_end) {
         return Step::Bad(NAMELESS);
     }
@@ -168,7 +143,7 @@ pub fn step_at(blob: &[u8], a: Areas, s: State) -> Step
     if a.structure_end - at < 4 {
         return Step::Bad(DISORDER);
     }
-    let word = word_at(blob, at);
+    let word = read_u32(blob, at);
     if word == FDT_BEGIN_NODE {
         return begin_at(blob, a, s);
     }

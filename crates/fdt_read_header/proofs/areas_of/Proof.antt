@@ -14,7 +14,7 @@ returns c =
       e .size-at3 .ensures .0,
       c .before .before .size-at4 .ensures .0,
       c .before .size-at5 .ensures .0,
-      c .word-at .ensures,
+      c .read-u32 .ensures,
     )
 
 pub areas-of-spec : {M : Type 1} → statement M

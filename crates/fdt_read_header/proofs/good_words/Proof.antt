@@ -11,13 +11,13 @@ returns c = rw (lt-leb _ _ (c .if1 .taken))
 
 returns-2 : tie.Need-returns-2
 unfolding goodWords
-returns-2 c = rw (le-leb _ _ (c .before .before .if1 .left), ← c .before .word-at .ensures, ne-eqb _ _ (c .if2 .taken))
+returns-2 c = rw (le-leb _ _ (c .before .before .if1 .left), ← c .before .read-u32 .ensures, ne-eqb _ _ (c .if2 .taken))
 
 returns-3 : tie.Need-returns-3
 unfolding goodWords
 returns-3 c =
     let w = c .before .before .before in
-    rw (le-leb _ _ (w .before .if1 .left), ← w .word-at .ensures, eq-eqb _ _ (c .before .before .if2 .left), ← c .before .word-at2 .ensures, ne-eqb _ _ (c .if3 .taken))
+    rw (le-leb _ _ (w .before .if1 .left), ← w .read-u32 .ensures, eq-eqb _ _ (c .before .before .if2 .left), ← c .before .read-u322 .ensures, ne-eqb _ _ (c .if3 .taken))
 
 returns-4 : tie.Need-returns-4
 unfolding goodWords
@@ -25,11 +25,11 @@ returns-4 c =
     let w = c .before .before .before .before .before in
     rw (
       le-leb _ _ (w .before .if1 .left),
-      ← w .word-at .ensures,
+      ← w .read-u32 .ensures,
       eq-eqb _ _ (c .before .before .before .before .if2 .left),
-      ← c .before .before .before .word-at2 .ensures,
+      ← c .before .before .before .read-u322 .ensures,
       eq-eqb _ _ (c .before .before .if3 .left),
-      ← c .before .word-at3 .ensures,
+      ← c .before .read-u323 .ensures,
       ne-eqb _ _ (c .if4 .taken),
     )
 
@@ -39,13 +39,13 @@ returns-5 c =
     let w = c .before .before .before .before .before .before in
     rw (
       le-leb _ _ (w .before .if1 .left),
-      ← w .word-at .ensures,
+      ← w .read-u32 .ensures,
       eq-eqb _ _ (c .before .before .before .before .before .if2 .left),
-      ← c .before .before .before .before .word-at2 .ensures,
+      ← c .before .before .before .before .read-u322 .ensures,
       eq-eqb _ _ (c .before .before .before .if3 .left),
-      ← c .before .before .word-at3 .ensures,
+      ← c .before .before .read-u323 .ensures,
       eq-eqb _ _ (c .before .if4 .left),
-      ← c .word-at4 .ensures,
+      ← c .read-u324 .ensures,
     )
 
 pub good-words-spec : {M : Type 1} → statement M

@@ -16,14 +16,14 @@ returns c = sym (hit _ _ (lt-ltb _ _ (c .if1 .taken)))
 returns-2 : tie.Need-returns-2
 unfolding propertyAt
 returns-2 c =
-    rw (← c .before .before .word-at .ensures, ← c .before .round-up .ensures)
+    rw (← c .before .before .read-u32 .ensures, ← c .before .round-up .ensures)
     (sym (skip _ _ (le-ltb _ _ (c .before .before .before .if1 .left)) ∙ hit _ _ (lt-ltb _ _ (c .if2 .taken))))
 
 returns-3 : tie.Need-returns-3
 unfolding propertyAt
 returns-3 c =
     let w = c .before .before .before .before in
-    rw (← w .before .before .before .word-at .ensures, ← w .before .before .round-up .ensures, ← w .word-at2 .ensures, ← c .before .before .zero-from .ensures)
+    rw (← w .before .before .before .read-u32 .ensures, ← w .before .before .round-up .ensures, ← w .read-u322 .ensures, ← c .before .before .zero-from .ensures)
     (sym (skip _ _ (le-ltb _ _ (w .before .before .before .before .if1 .left)) ∙ skip _ _ (le-ltb _ _ (w .before .if2 .left)) ∙ hit _ _ (le-leb _ _ (c .if3 .taken))))
 
 cast-t13 : tie.Need-cast-t13
@@ -33,7 +33,7 @@ returns-4 : tie.Need-returns-4
 unfolding propertyAt
 returns-4 c =
     let w = c .before .before .before .before in
-    rw (← w .before .before .before .word-at .ensures, ← w .before .before .round-up .ensures, ← w .word-at2 .ensures, ← c .before .before .zero-from .ensures)
+    rw (← w .before .before .before .read-u32 .ensures, ← w .before .before .round-up .ensures, ← w .read-u322 .ensures, ← c .before .before .zero-from .ensures)
     (sym (skip _ _ (le-ltb _ _ (w .before .before .before .before .if1 .left)) ∙ skip _ _ (le-ltb _ _ (w .before .if2 .left)) ∙ skip _ _ (lt-leb _ _ (c .if3 .left))))
 
 pub property-at-spec : {M : Type 1} → statement M

@@ -15,34 +15,34 @@ returns c = sym (hit _ _ (lt-ltb _ _ (c .if1 .taken)))
 returns-2 : tie.Need-returns-2
 returns-2 c =
     let w = c .before .before in
-    c .begin-at .ensures ∙ sym (at-begin _ _ _ (le-ltb _ _ (w .before .if1 .left)) (sym (w .word-at .ensures) ∙ c .before .if2 .taken))
+    c .begin-at .ensures ∙ sym (at-begin _ _ _ (le-ltb _ _ (w .before .if1 .left)) (sym (w .read-u32 .ensures) ∙ c .before .if2 .taken))
 
 returns-3 : tie.Need-returns-3
 returns-3 c =
     let w = c .before .before .before in
-    c .end-at .ensures ∙ sym (at-end _ _ _ (le-ltb _ _ (w .before .if1 .left)) (sym (w .word-at .ensures) ∙ c .before .if3 .taken))
+    c .end-at .ensures ∙ sym (at-end _ _ _ (le-ltb _ _ (w .before .if1 .left)) (sym (w .read-u32 .ensures) ∙ c .before .if3 .taken))
 
 returns-4 : tie.Need-returns-4
 returns-4 c =
     let w = c .before .before .before .before .before in
     c .property-at .ensures
-    ∙ sym (at-property _ _ _ (le-ltb _ _ (w .before .if1 .left)) (sym (w .word-at .ensures) ∙ c .before .before .if4 .taken) (c .before .if5 .taken))
+    ∙ sym (at-property _ _ _ (le-ltb _ _ (w .before .if1 .left)) (sym (w .read-u32 .ensures) ∙ c .before .before .if4 .taken) (c .before .if5 .taken))
 
 returns-5 : tie.Need-returns-5
 returns-5 c =
     let w = c .before .before .before .before in
-    sym (late-property _ _ _ (le-ltb _ _ (w .before .if1 .left)) (sym (w .word-at .ensures) ∙ c .before .if4 .taken) (c .if5 .left))
+    sym (late-property _ _ _ (le-ltb _ _ (w .before .if1 .left)) (sym (w .read-u32 .ensures) ∙ c .before .if4 .taken) (c .if5 .left))
 
 returns-6 : tie.Need-returns-6
 returns-6 c =
     let w = c .before .before .before .before .before in
-    c .final-at .ensures ∙ sym (at-final _ _ _ (le-ltb _ _ (w .before .if1 .left)) (sym (w .word-at .ensures) ∙ c .before .if6 .taken))
+    c .final-at .ensures ∙ sym (at-final _ _ _ (le-ltb _ _ (w .before .if1 .left)) (sym (w .read-u32 .ensures) ∙ c .before .if6 .taken))
 
 returns-7 : tie.Need-returns-7
 unfolding stepAt
 returns-7 c =
     let w = c .before .before .before .before in
-    rw (← w .word-at .ensures)
+    rw (← w .read-u32 .ensures)
     (sym (skip _ _ (le-ltb _ _ (w .before .if1 .left))
     ∙ skip _ _ (ne-eqb _ _ (c .before .before .before .if2 .left))
     ∙ skip _ _ (ne-eqb _ _ (c .before .before .if3 .left))
