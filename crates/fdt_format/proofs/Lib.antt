@@ -5,6 +5,7 @@ pub mod Nested
 pub mod Nodes
 pub mod ReadBack
 pub mod ReservationsRead
+pub mod Steps
 pub mod Strings
 pub mod Structure
 pub mod Tokens

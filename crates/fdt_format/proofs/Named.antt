@@ -9,7 +9,7 @@ use lib.Seq.{getD-at}
 use Rattle.fdt_strings.specs.Entries.{NoZero, no-byte, next-byte}
 use Rattle.fdt_format.specs.Step.{zeroFrom}
 use Rattle.fdt_format.specs.Reading.{untilZero, nameAt}
-use Rattle.fdt_format.proofs.Walks.{skip, hit, zero-here, zero-on}
+use Rattle.fdt_format.proofs.Steps.{zero-here, zero-on}
 use Rattle.fdt_format.proofs.Words.{BytesAt, bytes-drop, bytes-right}
 
 -- the byte that stands first
@@ -26,9 +26,9 @@ zero-found {b} {at} e (next-byte {b = x} {s = xs} p n) h l =
 
 until-zero : {name : List ℕ} (rest : List ℕ) → NoZero name → untilZero ((name ++ (0 ∷ [])) ++ rest) ≡ name
 unfolding untilZero
-until-zero rest no-byte = hit _ _ refl
+until-zero rest no-byte = refl
 until-zero rest (next-byte {b = x} {s = xs} p n) =
-    skip _ _ (ne-eqb x 0 (omega arith)) ∙ ap (λ (l : List ℕ). x ∷ l) (until-zero rest n)
+    rw (ne-eqb x 0 (omega arith)) (ap (λ (l : List ℕ). x ∷ l) (until-zero rest n))
 
 pub name-read : {b : List ℕ} {at : ℕ} {name : List ℕ} → NoZero name → BytesAt b at (name ++ (0 ∷ [])) → nameAt b at ≡ name
 unfolding nameAt

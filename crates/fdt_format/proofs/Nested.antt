@@ -1,86 +1,24 @@
 -- A walk that is accepted tells nodes: the depth of its states, and whether they take a property, put events in order. So a reading
 -- refuses only what header, reservations or walk refuse.
 use mathlib.Core.Path.{_≡_, refl, sym, ap, subst, _∙_}
-use mathlib.Core.Bool.{Bool, true, false, not, false≢true}
+use mathlib.Core.Bool.{Bool, true, false, not, cond, false≢true}
 use mathlib.Core.List.{List, [], _∷_, map}
 use mathlib.Core.Logic.{_↔_}
 use mathlib.Core.Option.{Option, none, some, Option·none-ne-some, Option·some-injective}
 use Prim.Native.Nat.{ℕ, zero, suc, _+_, _<_}
 use native.Mathlib.Omega.{arith}
-use borrow.Author.Tests.{eqb-true, eqb-false}
-use lib.ListN.{take, drop}
 use Rattle.fdt_format.specs.declared.Areas.{Areas}
 use Rattle.fdt_format.specs.declared.Entry.{Entry}
 use Rattle.fdt_format.specs.declared.State.{State}
 use Rattle.fdt_format.specs.declared.Step.{Step}
 use Rattle.fdt_format.specs.declared.Step.the-variants as step
-use Rattle.fdt_format.specs.Description.{Property, _≔_, Nodes, Reservation, Description}
+use Rattle.fdt_format.specs.Description.{Property, Nodes, Reservation, Description}
 use Rattle.fdt_format.specs.Events.{Event, begins, has, ends, events, nodesOf}
-use Rattle.fdt_format.specs.Reading.{areasOf, goodHeader, nameAt, eventAt, walkNodes, described, readReservations, readNodes, reading}
-use Rattle.fdt_format.specs.Step.{pick, beginAt, propertyAt, endAt, finalAt, stepAt}
-use Rattle.fdt_format.specs.Tokens.{beginToken, endToken, propertyToken}
+use Rattle.fdt_format.specs.Reading.{areasOf, goodHeader, eventAt, walkNodes, described, readReservations, readNodes, reading}
+use Rattle.fdt_format.specs.Step.{stepAt}
 use Rattle.fdt_format.specs.Walk.{Walk, bad, good, more, follow, steps, walk, start}
 use Rattle.fdt_format.proofs.Nodes.{Accepted, described-by, nodes-exactly}
-use Rattle.fdt_format.proofs.Walks.{skip, hit, by-test, by-token}
-
--- ---- what an entry tells, by its token
-
-module _ (b : List ℕ) (t : Entry) where
-  pub event-begins : t .token ≡ beginToken → eventAt b t ≡ begins (nameAt b (t .name))
-  unfolding eventAt
-  event-begins e = hit _ _ (rw e)
-
-  pub event-ends : t .token ≡ endToken → eventAt b t ≡ ends
-  unfolding eventAt
-  event-ends e = skip _ _ (rw e) ∙ hit _ _ (rw e)
-
-  pub event-has : t .token ≡ propertyToken → eventAt b t ≡ has (nameAt b (t .name) ≔ take (t .size) (drop (t .place + 12) b))
-  unfolding eventAt
-  event-has e = skip _ _ (rw e) ∙ skip _ _ (rw e)
-
--- ---- how a token moves the state
-
--- an entry begins a node, is a property where one is taken, or ends a node
-data Kind (b : List ℕ) (s : State) (t : Entry) (s' : State) : Type 0 where
-  opens : (name : List ℕ) → eventAt b t ≡ begins name → s' .depth ≡ suc (s .depth) → s' .«takes_property» ≡ true → Kind b s t s'
-  adds : (p : Property) → eventAt b t ≡ has p → s' .depth ≡ s .depth → s .«takes_property» ≡ true → s' .«takes_property» ≡ true → Kind b s t s'
-  closes : eventAt b t ≡ ends → suc (s' .depth) ≡ s .depth → s' .«takes_property» ≡ false → Kind b s t s'
-
--- of what stands at a state: the final word stands where no node is open
-unfoldable Kinds : List ℕ → State → Step → Type 0
-Kinds b s (step.Entry t s') = Kind b s t s'
-Kinds b s step.Final = s .depth ≡ 0
-Kinds b s (step.Bad n) = Unit {0}
-
-module _ (b : List ℕ) (a : Areas) (s : State) where
-  begin-kinds : Kinds b s (beginAt b a s)
-  unfolding beginAt Kinds
-  begin-kinds =
-      by-test (Kinds b s) _ _ _ (λ _. tt)
-      λ _. by-test (Kinds b s) _ _ _ (λ _. tt)
-      λ _. opens _ (event-begins b _ refl) (omega arith) refl
-
-  property-kinds : s .«takes_property» ≡ true → Kinds b s (propertyAt b a s)
-  unfolding propertyAt Kinds
-  property-kinds r =
-      by-test (Kinds b s) _ _ _ (λ _. tt)
-      λ _. by-test (Kinds b s) _ _ _ (λ _. tt)
-      λ _. by-test (Kinds b s) _ _ _ (λ _. tt)
-      λ _. adds _ (event-has b _ refl) refl r refl
-
-  end-kinds : Kinds b s (endAt s)
-  unfolding endAt Kinds
-  end-kinds =
-      by-test (Kinds b s) _ _ _ (λ _. tt)
-      λ h. let n : s .depth ≡ 0 → ⊥ = eqb-false _ _ h in closes (event-ends b _ refl) (omega (arith, n)) refl
-
-  final-kinds : Kinds b s (finalAt a s)
-  unfolding finalAt Kinds
-  final-kinds = by-test (Kinds b s) _ _ _ (λ h. by-test (Kinds b s) _ _ _ (λ _. eqb-true _ _ h) (λ _. tt)) (λ _. tt)
-
-  step-kinds : Kinds b s (stepAt b a s)
-  unfolding Kinds
-  step-kinds = by-token (Kinds b s) b a s (λ _. tt) begin-kinds (λ _. end-kinds) property-kinds final-kinds
+use Rattle.fdt_format.proofs.Steps.{Kind, opens, adds, closes, Stepped, step-stepped}
 
 -- ---- one token more in front
 
@@ -134,21 +72,21 @@ split t (good rest) ts q = record { rest = rest; is = refl; all = cc }
 
 module _ (b : List ℕ) where
   -- by what stands at a state, if the walk on from it tells events in order
-  here : (on : State → Walk) (s : State) → Open s → ((s' : State) → Open s' → (ts : List Entry) → on s' ≡ good ts → Ordered s' (map (eventAt b) ts))
-      → (x : Step) → Kinds b s x → (ts : List Entry) → follow x on ≡ good ts → Ordered s (map (eventAt b) ts)
-  unfolding Kinds Ordered Accepted
-  here on s o ih (step.Entry t s') k ts q =
+  here : (a : Areas) (on : State → Walk) (s : State) → Open s → ((s' : State) → Open s' → (ts : List Entry) → on s' ≡ good ts → Ordered s' (map (eventAt b) ts))
+      → (x : Step) → Stepped b a s x → (ts : List Entry) → follow x on ≡ good ts → Ordered s (map (eventAt b) ts)
+  unfolding Stepped Ordered Accepted
+  here a on s o ih (step.Entry t s') k ts q =
       let p : Split t (on s') ts = split t (on s') ts q in
-      let h : Ordered s' (map (eventAt b) (p .rest)) = ih s' (open-on k o) (p .rest) (p .is) in
-      subst (λ (l : List Entry). Ordered s (map (eventAt b) l)) (p .all) (front (map (eventAt b) (p .rest)) k o h)
-  here on s o ih step.Final k ts q = let n : [] ≡ ts = cc in rw (← n) k
-  here on s o ih (step.Bad n) k ts q = absurd (bad-not-good q)
+      let h : Ordered s' (map (eventAt b) (p .rest)) = ih s' (open-on (k .1) o) (p .rest) (p .is) in
+      subst (λ (l : List Entry). Ordered s (map (eventAt b) l)) (p .all) (front (map (eventAt b) (p .rest)) (k .1) o h)
+  here a on s o ih step.Final k ts q = let n : [] ≡ ts = cc in rw (← n) k
+  here a on s o ih (step.Bad n) k ts q = absurd (bad-not-good q)
 
   module _ (a : Areas) where
     ordered : (k : ℕ) (s : State) → Open s → (ts : List Entry) → steps (stepAt b a) k s ≡ good ts → Ordered s (map (eventAt b) ts)
     unfolding steps
     ordered zero s o ts q = absurd (bad-not-good q)
-    ordered (suc k) s o ts q = here (steps (stepAt b a) k) s o (ordered k) (stepAt b a s) (step-kinds b a s) ts q
+    ordered (suc k) s o ts q = here a (steps (stepAt b a) k) s o (ordered k) (stepAt b a s) (step-stepped b a s) ts q
 
     -- a walk that is accepted tells nodes
     pub nested : (ts : List Entry) → walk b a (start a) ≡ good ts → (f : Nodes) × (nodesOf (map (eventAt b) ts) ≡ some f)
@@ -169,8 +107,7 @@ pub record Parts (b : List ℕ) (d : Description) : Type 0 where
   pub walked : walk b (areasOf b) (start (areasOf b)) ≡ good entries
   pub nodes : events (d .nodes) [] ≡ map (eventAt b) entries
 
-passed : {A : Type 0} (t : Bool) (o : Option A) (x : A) → pick t o none ≡ some x → (t ≡ true) × (o ≡ some x)
-unfolding pick
+passed : {A : Type 0} (t : Bool) (o : Option A) (x : A) → cond t o none ≡ some x → (t ≡ true) × (o ≡ some x)
 passed true o x q = (refl, q)
 passed false o x q = absurd (Option·none-ne-some x q)
 
@@ -201,7 +138,7 @@ module _ (b : List ℕ) where
   unfolding reading readNodes walkNodes described
   parts-read d p =
       let n : nodesOf (map (eventAt b) (p .entries)) ≡ some (d .nodes) = nodes-exactly _ (d .nodes) .1 (p .nodes) in
-      hit _ _ (p .header) ∙ rw (p .reservations, p .walked, n, p .boot)
+      rw (p .header, p .reservations, p .walked, n, p .boot)
 
   -- the reading gives a description exactly where it has these parts
   pub reading-is : (d : Description) → (reading b ≡ some d) ↔ Parts b d

@@ -21,7 +21,6 @@ use Rattle.fdt_format.proofs.Nodes.{Accepted, nodes-events, accepted-ev
 use Rattle.fdt_format.proofs.ReservationsRead.{length-reservations, reservations-read}
 use Rattle.fdt_format.proofs.Structure.{structure-size}
 use Rattle.fdt_format.proofs.Tokens.{length-final}
-use Rattle.fdt_format.proofs.Walks.{hit}
 use Rattle.fdt_format.proofs.Words.{BytesAt, bytes-left, bytes-right}
 use Rattle.fdt_format.proofs.Written.{Laid, nodes-read}
 
@@ -89,10 +88,10 @@ module _ (rs : List Reservation) (boot : ℕ) (es : List Event) where
         let k : structureStart (length rs) ≤ stringsStart = omega arith in
         let good = header-good b (length rs) stringsStart (length (joined (namesOf es))) boot header-held k length-from small boots in
         let named : areasOf b ≡ areas = areas-read b (length rs) stringsStart (length (joined (namesOf es))) boot header-held k length-from small boots in
-        hit _ _ good
-        ∙ ap (λ (a : Areas). described (a .boot) (readReservations b a) (readNodes b a)) named
+        rw good
+        (ap (λ (a : Areas). described (a .boot) (readReservations b a) (readNodes b a)) named
         ∙ ap (λ (r : Option (List Reservation)). described boot r (readNodes b areas)) (reserved-read t)
-        ∙ ap (described boot (some rs)) (nodes-read b areas es laid c p)
+        ∙ ap (described boot (some rs)) (nodes-read b areas es laid c p))
 
 -- how long the blob of a description is
 pub length-blob : (d : Description) → let es : List Event = events (d .nodes) [] in length (blobOf d) ≡ structureStart (length (d .reservations)) + length (structureBytes (namesOf es) es) + 4 + length (joined (namesOf es))

@@ -16,7 +16,6 @@ use Rattle.fdt_format.specs.Description.{Reservation, reserved}
 use Rattle.fdt_header.specs.Header.{reservationBytes}
 use Rattle.fdt_format.specs.Reading.{reservation, reservationsAt}
 use Rattle.fdt_format.specs.Blob.{numbersOf, AllTold}
-use Rattle.fdt_format.proofs.Walks.{skip, hit}
 use Rattle.fdt_format.proofs.Words.{BytesAt, bytes-left, bytes-right, cell-at}
 
 length-numbers : (rs : List Reservation) → length (numbersOf rs) ≡ 2 * length rs
@@ -64,10 +63,10 @@ module _ (b : List ℕ) where
   reservations-read rs zero at t l h = absurd (omega arith)
   reservations-read [] (suc k) at t l h =
       let p = pair-at 0 0 at [] (omega arith) (omega arith) (subst (BytesAt b at) end-pair h) in
-      rw (p .0, p .1) (hit _ _ refl)
+      rw (p .0, p .1)
   reservations-read (reserved address size ∷ rs) (suc k) at t l h =
       let two : List ℕ = address ∷ size ∷ [] in
       let g = subst (BytesAt b at) (next-pair address size (numbersOf rs)) h in
       let p = pair-at address size at [] (t .0) (t .1) (bytes-left (cellBytes 8 two) (reservationBytes (numbersOf rs)) g) in
       let others = bytes-right (cellBytes 8 two) (reservationBytes (numbersOf rs)) g (at + 16) (ap (λ (n : ℕ). at + n) (length-cells 8 two)) in
-      rw (p .0, p .1) (skip _ _ (no-end address size (t .2)) ∙ ap (reservation address size) (reservations-read rs k (at + 16) (t .3) (omega arith) others))
+      rw (p .0, p .1, no-end address size (t .2)) (ap (reservation address size) (reservations-read rs k (at + 16) (t .3) (omega arith) others))

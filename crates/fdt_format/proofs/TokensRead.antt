@@ -21,8 +21,7 @@ use Rattle.fdt_format.specs.Step.{zeroFrom, beginAt, propertyAt, endAt, 
 use Rattle.fdt_format.specs.Reading.{eventAt}
 use Rattle.fdt_format.specs.Blob.{offsetOf, eventSize}
 use Rattle.fdt_format.proofs.Named.{zero-found, name-read}
-use Rattle.fdt_format.proofs.Nested.{event-begins, event-ends, event-has}
-use Rattle.fdt_format.proofs.Walks.{skip, hit}
+use Rattle.fdt_format.proofs.Steps.{event-begins, event-ends, event-has}
 use Rattle.fdt_format.proofs.Words.{BytesAt, bytes-left, bytes-right, bytes-take, bytes-fits, number-at, cell-at}
 
 -- ---- what each event makes of a state
@@ -104,9 +103,8 @@ module _ (b : List ℕ) (a : Areas) (names : List (List ℕ)) (s : State) where
       let t₃ : roundUp 4 (s .at + 4 + length name + 1) ≤ a .«structure_end» = omega (arith, round-from (s .at) (length name) m) in
       record {
         step =
-            rw (w, f)
-            (skip _ _ (le-ltb _ _ t₁) ∙ hit _ _ refl ∙ skip _ _ (lt-leb _ _ t₂) ∙ skip _ _ (le-ltb _ _ t₃)
-            ∙ same-place (round-from (s .at) (length name) m));
+            rw (le-ltb _ _ t₁, w, f, lt-leb _ _ t₂, le-ltb _ _ t₃)
+            (same-place (round-from (s .at) (length name) m));
         told = event-begins b (entryOf a names s (begins name)) refl ∙ ap begins (name-read z n);
       }
 
@@ -116,7 +114,7 @@ module _ (b : List ℕ) (a : Areas) (names : List (List ℕ)) (s : State) where
       let w : wordAt b (s .at) ≡ endToken = word-at 2 h (omega arith) in
       let t₁ : 4 ≤ a .«structure_end» - s .at = omega arith in
       record {
-        step = rw w (skip _ _ (le-ltb _ _ t₁) ∙ skip _ _ refl ∙ hit _ _ refl ∙ skip _ _ (ne-eqb (s .depth) 0 (λ z. omega arith)));
+        step = rw (le-ltb _ _ t₁, w, ne-eqb (s .depth) 0 (λ z. omega arith));
         told = event-ends b (entryOf a names s ends) refl;
       }
 
@@ -142,9 +140,8 @@ module _ (b : List ℕ) (a : Areas) (names : List (List ℕ)) (s : State) where
       let t₃ : roundUp 4 (length value) ≤ a .«structure_end» - s .at - 12 = omega arith in
       record {
         step =
-            rw (w, w₁, w₂, f)
-            (skip _ _ (le-ltb _ _ t₁) ∙ skip _ _ refl ∙ skip _ _ refl ∙ hit _ _ refl ∙ hit _ _ room
-            ∙ skip _ _ (le-ltb _ _ t₂) ∙ skip _ _ (le-ltb _ _ t₃) ∙ skip _ _ (lt-leb _ _ k) ∙ same-place (let r : s .at + 12 + roundUp 4 (length value) ≡ s .at + (12 + roundUp 4 (length value)) = omega arith in r));
+            rw (le-ltb _ _ t₁, w, room, w₁, w₂, f, le-ltb _ _ t₂, le-ltb _ _ t₃, lt-leb _ _ k)
+            (same-place (let r : s .at + 12 + roundUp 4 (length value) ≡ s .at + (12 + roundUp 4 (length value)) = omega arith in r));
         told = event-has b (entryOf a names s (has (name ≔ value))) refl ∙ rw (name-read (n .plain) (n .held), bytes-take v (length value) refl);
       }
 
@@ -153,4 +150,4 @@ module _ (b : List ℕ) (a : Areas) (names : List (List ℕ)) (s : State) where
   final-read strings h le d =
       let w : wordAt b (s .at) ≡ finalToken = word-at 9 (bytes-left (bigEndian 4 9) strings h) (omega arith) in
       let t₁ : 4 ≤ a .«structure_end» - s .at = omega arith in
-      rw w (skip _ _ (le-ltb _ _ t₁) ∙ skip _ _ refl ∙ skip _ _ refl ∙ skip _ _ refl ∙ hit _ _ refl ∙ hit _ _ (eq-eqb _ _ d) ∙ hit _ _ (eq-eqb _ _ le))
+      rw (le-ltb _ _ t₁, w, eq-eqb _ _ d, eq-eqb _ _ le)

@@ -1,5 +1,5 @@
 -- How a blob is read (document 01; Devicetree Specification v0.4, chapter 5): from any bytes to what they describe, or nothing.
-use mathlib.Core.Bool.{Bool, _&&_}
+use mathlib.Core.Bool.{Bool, _&&_, cond}
 use mathlib.Core.List.{List, [], _∷_, map}
 use mathlib.Core.Option.{Option, none, some}
 use Prim.Native.Nat.{ℕ, zero, suc, _+_, _-_, _/_, _%_}
@@ -11,7 +11,6 @@ use Rattle.fdt_format.specs.declared.Entry.{Entry}
 use Rattle.fdt_format.specs.Description.{Property, _≔_, Nodes, Reservation, reserved, Description}
 use Rattle.fdt_format.specs.Events.{Event, begins, has, ends, nodesOf}
 use Rattle.fdt_header.specs.Header.{magic, version, lastCompatible, headerSize}
-use Rattle.fdt_format.specs.Step.{pick}
 use Rattle.fdt_format.specs.Tokens.{beginToken, endToken}
 use Rattle.fdt_format.specs.Walk.{Walk, bad, good, walk, start}
 
@@ -57,13 +56,13 @@ reservation address size (some rs) = some (reserved address size ∷ rs)
 unfoldable pub reservationsAt : List ℕ → ℕ → ℕ → Option (List Reservation)
 reservationsAt b zero at = none
 reservationsAt b (suc k) at =
-    pick (eqb (wideAt b at) 0 && eqb (wideAt b (at + 8)) 0) (some [])
+    cond (eqb (wideAt b at) 0 && eqb (wideAt b (at + 8)) 0) (some [])
     (reservation (wideAt b at) (wideAt b (at + 8)) (reservationsAt b k (at + 16)))
 
 -- the bytes before the first 0
 unfoldable pub untilZero : List ℕ → List ℕ
 untilZero [] = []
-untilZero (x ∷ xs) = pick (eqb x 0) [] (x ∷ untilZero xs)
+untilZero (x ∷ xs) = cond (eqb x 0) [] (x ∷ untilZero xs)
 
 -- the name at a place
 unfoldable pub nameAt : List ℕ → ℕ → List ℕ
@@ -72,8 +71,8 @@ nameAt b at = untilZero (drop at b)
 -- what an entry tells: a value stands after its property's three words
 unfoldable pub eventAt : List ℕ → Entry → Event
 eventAt b t =
-    pick (eqb (t .token) beginToken) (begins (nameAt b (t .name)))
-    (pick (eqb (t .token) endToken) ends
+    cond (eqb (t .token) beginToken) (begins (nameAt b (t .name)))
+    (cond (eqb (t .token) endToken) ends
     (has (nameAt b (t .name) ≔ take (t .size) (drop (t .place + 12) b))))
 
 -- the nodes of a walk
@@ -98,4 +97,4 @@ readNodes b a = walkNodes b (walk b a (start a))
 -- the reading
 unfoldable pub reading : List ℕ → Option Description
 reading b =
-    pick (goodHeader b) (described (areasOf b .boot) (readReservations b (areasOf b)) (readNodes b (areasOf b))) none
+    cond (goodHeader b) (described (areasOf b .boot) (readReservations b (areasOf b)) (readNodes b (areasOf b))) none

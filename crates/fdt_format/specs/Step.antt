@@ -1,5 +1,5 @@
 -- Reading one token of the structure (document 01, "How a blob is read"; Devicetree Specification v0.4, section 5.4).
-use mathlib.Core.Bool.{Bool, true, false}
+use mathlib.Core.Bool.{true, false, cond}
 use mathlib.Core.List.{List}
 use Prim.Native.Nat.{ℕ, zero, suc, _+_, _-_}
 use lib.Dec.{eqb, leb, ltb}
@@ -13,11 +13,6 @@ use Rattle.fdt_format.specs.declared.Step.{Step}
 use Rattle.fdt_format.specs.declared.Step.the-variants as step
 use Rattle.fdt_format.specs.Tokens.{beginToken, endToken, propertyToken, finalToken}
 
--- a test: the first where it holds, otherwise the second
-unfoldable pub pick : {A : Type 0} → Bool → A → A → A
-pick true a b = a
-pick false a b = b
-
 -- the number that a token out of order gets from a reader (document 02, request 1)
 abbrev pub disorder : ℕ
 disorder = 23
@@ -29,14 +24,14 @@ nameless = 24
 -- the first place from `at` on that holds a 0, or the place k further
 unfoldable pub zeroFrom : List ℕ → ℕ → ℕ → ℕ
 zeroFrom b zero at = at
-zeroFrom b (suc k) at = pick (eqb (getD b at 0) 0) at (zeroFrom b k (suc at))
+zeroFrom b (suc k) at = cond (eqb (getD b at 0) 0) at (zeroFrom b k (suc at))
 
 -- word 1: the name runs to the next 0; it and the padding end inside the structure
 unfoldable pub beginAt : List ℕ → Areas → State → Step
 beginAt b a s =
     let end : ℕ = zeroFrom b (a .«structure_end» - (s .at + 4)) (s .at + 4) in
-    pick (leb (a .«structure_end») end) (step.Bad disorder)
-    (pick (ltb (a .«structure_end») (roundUp 4 (end + 1))) (step.Bad disorder)
+    cond (leb (a .«structure_end») end) (step.Bad disorder)
+    (cond (ltb (a .«structure_end») (roundUp 4 (end + 1))) (step.Bad disorder)
     (step.Entry
     (record { token = beginToken; place = s .at; name = s .at + 4; size = 0 })
     (record { at = roundUp 4 (end + 1); depth = s .depth + 1; «takes_property» = true })))
@@ -46,9 +41,9 @@ unfoldable pub propertyAt : List ℕ → Areas → State → Step
 propertyAt b a s =
     let size : ℕ = wordAt b (s .at + 4) in
     let name : ℕ = a .strings + wordAt b (s .at + 8) in
-    pick (ltb (a .«structure_end» - s .at) 12) (step.Bad disorder)
-    (pick (ltb (a .«structure_end» - s .at - 12) (roundUp 4 size)) (step.Bad disorder)
-    (pick (leb (a .«strings_end») (zeroFrom b (a .«strings_end» - name) name)) (step.Bad nameless)
+    cond (ltb (a .«structure_end» - s .at) 12) (step.Bad disorder)
+    (cond (ltb (a .«structure_end» - s .at - 12) (roundUp 4 size)) (step.Bad disorder)
+    (cond (leb (a .«strings_end») (zeroFrom b (a .«strings_end» - name) name)) (step.Bad nameless)
     (step.Entry
     (record { token = propertyToken; place = s .at; name = name; size = size })
     (record { at = s .at + 12 + roundUp 4 size; depth = s .depth; «takes_property» = true }))))
@@ -56,7 +51,7 @@ propertyAt b a s =
 -- word 2: a node is open
 unfoldable pub endAt : State → Step
 endAt s =
-    pick (eqb (s .depth) 0) (step.Bad disorder)
+    cond (eqb (s .depth) 0) (step.Bad disorder)
     (step.Entry
     (record { token = endToken; place = s .at; name = 0; size = 0 })
     (record { at = s .at + 4; depth = s .depth - 1; «takes_property» = false }))
@@ -64,16 +59,16 @@ endAt s =
 -- word 9: no node is open, and the structure ends here
 unfoldable pub finalAt : Areas → State → Step
 finalAt a s =
-    pick (eqb (s .depth) 0)
-    (pick (eqb (s .at + 4) (a .«structure_end»)) step.Final (step.Bad disorder))
+    cond (eqb (s .depth) 0)
+    (cond (eqb (s .at + 4) (a .«structure_end»)) step.Final (step.Bad disorder))
     (step.Bad disorder)
 
 -- the token at a state: 1, 2, 3 (before the node's children) or 9, inside the structure
 unfoldable pub stepAt : List ℕ → Areas → State → Step
 stepAt b a s =
-    pick (ltb (a .«structure_end» - s .at) 4) (step.Bad disorder)
-    (pick (eqb (wordAt b (s .at)) beginToken) (beginAt b a s)
-    (pick (eqb (wordAt b (s .at)) endToken) (endAt s)
-    (pick (eqb (wordAt b (s .at)) propertyToken) (pick (s .«takes_property») (propertyAt b a s) (step.Bad disorder))
-    (pick (eqb (wordAt b (s .at)) finalToken) (finalAt a s)
+    cond (ltb (a .«structure_end» - s .at) 4) (step.Bad disorder)
+    (cond (eqb (wordAt b (s .at)) beginToken) (beginAt b a s)
+    (cond (eqb (wordAt b (s .at)) endToken) (endAt s)
+    (cond (eqb (wordAt b (s .at)) propertyToken) (cond (s .«takes_property») (propertyAt b a s) (step.Bad disorder))
+    (cond (eqb (wordAt b (s .at)) finalToken) (finalAt a s)
     (step.Bad disorder)))))

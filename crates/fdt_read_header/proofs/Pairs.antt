@@ -1,6 +1,6 @@
 -- Reservations are counted one by one, up to the all-zero pair.
 use mathlib.Core.Path.{_≡_, refl, ap, _∙_}
-use mathlib.Core.Bool.{Bool, true, false, _&&_}
+use mathlib.Core.Bool.{Bool, true, false, _&&_, cond}
 use mathlib.Core.List.{List, []}
 use mathlib.Core.Option.{Option, none, some}
 use Prim.Native.Nat.{ℕ, suc, _+_, _-_, _<_}
@@ -9,9 +9,7 @@ use lib.Dec.{eqb}
 use lib.ListN.{length}
 use Rattle.fdt_bytes.specs.BigEndian.{wideAt}
 use Rattle.fdt_format.specs.Description.{Reservation}
-use Rattle.fdt_format.specs.Step.{pick}
 use Rattle.fdt_format.specs.Reading.{reservation, reservationsAt}
-use Rattle.fdt_format.proofs.Walks.{skip, hit}
 use Rattle.fdt_read_header.specs.declared.Reserved.{Reserved}
 use Rattle.fdt_read_header.specs.declared.Reserved.the-variants as reserved
 use Rattle.fdt_read_header.specs.Counted.{counted}
@@ -39,18 +37,18 @@ zeroPair b at = eqb (wideAt b at) 0 && eqb (wideAt b (at + 8)) 0
 
 module _ (b : List ℕ) (n left at : ℕ) where
   unrolled : 0 < left
-      → reservationsAt b left at ≡ pick (zeroPair b at) (some []) (reservation (wideAt b at) (wideAt b (at + 8)) (reservationsAt b (left - 1) (at + 16)))
+      → reservationsAt b left at ≡ cond (zeroPair b at) (some []) (reservation (wideAt b at) (wideAt b (at + 8)) (reservationsAt b (left - 1) (at + 16)))
   unfolding reservationsAt
   unrolled more = let e : left ≡ suc (left - 1) = omega arith in ap (λ (m : ℕ). reservationsAt b m at) e
 
   -- the all-zero pair stands here
   pub ends-here : 0 < left → zeroPair b at ≡ true → countedFrom n (reservationsAt b left at) ≡ reserved.Pairs n
   unfolding countedFrom
-  ends-here more z = ap (countedFrom n) (unrolled more ∙ hit _ _ z) ∙ ap reserved.Pairs (omega arith)
+  ends-here more z = rw (unrolled more, z) (ap reserved.Pairs (omega arith))
 
   -- a reservation stands here
   pub goes-on : 0 < left → zeroPair b at ≡ false → countedFrom n (reservationsAt b left at) ≡ countedFrom (n + 1) (reservationsAt b (left - 1) (at + 16))
-  goes-on more z = ap (countedFrom n) (unrolled more ∙ skip _ _ z) ∙ one-more _ _ n _
+  goes-on more z = rw (unrolled more, z) (one-more _ _ n _)
 
   -- no pair is left
   pub none-left : left ≡ 0 → countedFrom n (reservationsAt b left at) ≡ reserved.Endless

@@ -1,6 +1,6 @@
 -- The first 0 from a place on is what the kit's search finds: both go byte by byte.
 use mathlib.Core.Path.{_≡_, sym, ap, subst, _∙_}
-use mathlib.Core.Bool.{Bool, true, false}
+use mathlib.Core.Bool.{Bool, true, false, cond}
 use mathlib.Core.List.{List}
 use Prim.Native.Nat.{ℕ, zero, suc, _+_, _-_, _≤_}
 use native.Mathlib.Omega.{arith}
@@ -8,12 +8,12 @@ use lib.Dec.{eqb}
 use lib.ListN.{length, getD, take, drop}
 use lib.Seq.{slice-empty, slice-cons}
 use Rattle.bytes.specs.Bytes.{indexOf, indexAfter, slice}
-use Rattle.fdt_format.specs.Step.{pick, zeroFrom}
-use Rattle.fdt_format.proofs.Walks.{zero-ge}
+use Rattle.fdt_format.specs.Step.{zeroFrom}
+use Rattle.fdt_format.proofs.Steps.{zero-ge}
 
 -- here, or so much further
-here : (t : Bool) (at k : ℕ) → pick t at (suc at + k) ≡ at + indexAfter t k
-unfolding pick indexAfter
+here : (t : Bool) (at k : ℕ) → cond t at (suc at + k) ≡ at + indexAfter t k
+unfolding indexAfter
 here true at k = omega arith
 here false at k = omega arith
 

@@ -1,27 +1,25 @@
 -- `begin_at` makes the tests of `beginAt` in their order.
-use mathlib.Core.Path.{sym, _∙_}
 use borrow.Author.Needs.{needs}
 use borrow.Author.Tests.{le-leb, lt-leb, lt-ltb, le-ltb}
 use Rattle.fdt_format.specs.Step.{beginAt}
-use Rattle.fdt_format.proofs.Walks.{skip, hit}
 use Rattle.fdt_read_token.proofs.begin_at.Statement.{statement}
 use Rattle.fdt_read_token.proofs.begin_at.Tie as tie
 
 returns : tie.Need-returns
 unfolding beginAt
-returns c = rw (← c .before .before .zero-from .ensures) (sym (hit _ _ (le-leb _ _ (c .if1 .taken))))
+returns c = rw (← c .before .before .zero-from .ensures, le-leb _ _ (c .if1 .taken))
 
 returns-2 : tie.Need-returns-2
 unfolding beginAt
 returns-2 c =
-    rw (← c .before .before .before .before .before .zero-from .ensures, ← c .before .before .round-up .ensures)
-    (sym (skip _ _ (lt-leb _ _ (c .before .before .before .if1 .left)) ∙ hit _ _ (lt-ltb _ _ (c .if2 .taken))))
+    let z = c .before .before .before in
+    rw (← z .before .before .zero-from .ensures, lt-leb _ _ (z .if1 .left), ← c .before .before .round-up .ensures, lt-ltb _ _ (c .if2 .taken))
 
 returns-3 : tie.Need-returns-3
 unfolding beginAt
 returns-3 c =
-    rw (← c .before .before .before .before .before .before .zero-from .ensures, ← c .before .before .before .round-up .ensures)
-    (sym (skip _ _ (lt-leb _ _ (c .before .before .before .before .if1 .left)) ∙ skip _ _ (le-ltb _ _ (c .before .if2 .left))))
+    let z = c .before .before .before .before in
+    rw (← z .before .before .zero-from .ensures, lt-leb _ _ (z .if1 .left), ← c .before .before .before .round-up .ensures, le-ltb _ _ (c .before .if2 .left))
 
 pub begin-at-spec : {M : Type 1} → statement M
 begin-at-spec =

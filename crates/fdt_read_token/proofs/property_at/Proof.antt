@@ -1,30 +1,26 @@
 -- `property_at` makes the tests of `propertyAt` in their order; a name that meets a 0 inside the strings has a place in the blob.
-use mathlib.Core.Path.{sym, _∙_}
 use native.Mathlib.Omega.{arith}
 use borrow.Author.Needs.{needs}
 use borrow.Author.Tests.{le-leb, lt-leb, lt-ltb, le-ltb}
 use Rattle.fdt_format.specs.Step.{propertyAt}
-use Rattle.fdt_format.proofs.Walks.{skip, hit}
 use Rattle.fdt_read_token.proofs.Zeros.{found-ge}
 use Rattle.fdt_read_token.proofs.property_at.Statement.{statement}
 use Rattle.fdt_read_token.proofs.property_at.Tie as tie
 
 returns : tie.Need-returns
 unfolding propertyAt
-returns c = sym (hit _ _ (lt-ltb _ _ (c .if1 .taken)))
+returns c = rw (lt-ltb _ _ (c .if1 .taken))
 
 returns-2 : tie.Need-returns-2
 unfolding propertyAt
 returns-2 c =
-    rw (← c .before .before .read-u32 .ensures, ← c .before .round-up .ensures)
-    (sym (skip _ _ (le-ltb _ _ (c .before .before .before .if1 .left)) ∙ hit _ _ (lt-ltb _ _ (c .if2 .taken))))
+    rw (le-ltb _ _ (c .before .before .before .if1 .left), ← c .before .before .read-u32 .ensures, ← c .before .round-up .ensures, lt-ltb _ _ (c .if2 .taken))
 
 returns-3 : tie.Need-returns-3
 unfolding propertyAt
 returns-3 c =
     let w = c .before .before .before .before in
-    rw (← w .before .before .before .read-u32 .ensures, ← w .before .before .round-up .ensures, ← w .read-u322 .ensures, ← c .before .before .zero-from .ensures)
-    (sym (skip _ _ (le-ltb _ _ (w .before .before .before .before .if1 .left)) ∙ skip _ _ (le-ltb _ _ (w .before .if2 .left)) ∙ hit _ _ (le-leb _ _ (c .if3 .taken))))
+    rw (← w .before .before .before .read-u32 .ensures, ← w .before .before .round-up .ensures, ← w .read-u322 .ensures, ← c .before .before .zero-from .ensures, le-ltb _ _ (w .before .before .before .before .if1 .left), le-ltb _ _ (w .before .if2 .left), le-leb _ _ (c .if3 .taken))
 
 cast-t13 : tie.Need-cast-t13
 cast-t13 c = omega (arith, found-ge _ _ _ _ (c .before .before .zero-from .ensures))
@@ -33,8 +29,7 @@ returns-4 : tie.Need-returns-4
 unfolding propertyAt
 returns-4 c =
     let w = c .before .before .before .before in
-    rw (← w .before .before .before .read-u32 .ensures, ← w .before .before .round-up .ensures, ← w .read-u322 .ensures, ← c .before .before .zero-from .ensures)
-    (sym (skip _ _ (le-ltb _ _ (w .before .before .before .before .if1 .left)) ∙ skip _ _ (le-ltb _ _ (w .before .if2 .left)) ∙ skip _ _ (lt-leb _ _ (c .if3 .left))))
+    rw (← w .before .before .before .read-u32 .ensures, ← w .before .before .round-up .ensures, ← w .read-u322 .ensures, ← c .before .before .zero-from .ensures, le-ltb _ _ (w .before .before .before .before .if1 .left), le-ltb _ _ (w .before .if2 .left), lt-leb _ _ (c .if3 .left))
 
 pub property-at-spec : {M : Type 1} → statement M
 property-at-spec =

@@ -3,14 +3,13 @@ use mathlib.Core.Path.{sym, _∙_}
 use borrow.Author.Needs.{needs}
 use borrow.Author.Tests.{lt-ltb, le-ltb, ne-eqb}
 use Rattle.fdt_format.specs.Step.{stepAt}
-use Rattle.fdt_format.proofs.Walks.{skip, hit}
 use Rattle.fdt_read_token.proofs.Steps.{at-begin, at-end, at-property, late-property, at-final}
 use Rattle.fdt_read_token.proofs.step_at.Statement.{statement}
 use Rattle.fdt_read_token.proofs.step_at.Tie as tie
 
 returns : tie.Need-returns
 unfolding stepAt
-returns c = sym (hit _ _ (lt-ltb _ _ (c .if1 .taken)))
+returns c = rw (lt-ltb _ _ (c .if1 .taken))
 
 returns-2 : tie.Need-returns-2
 returns-2 c =
@@ -42,12 +41,14 @@ returns-7 : tie.Need-returns-7
 unfolding stepAt
 returns-7 c =
     let w = c .before .before .before .before in
-    rw (← w .read-u32 .ensures)
-    (sym (skip _ _ (le-ltb _ _ (w .before .if1 .left))
-    ∙ skip _ _ (ne-eqb _ _ (c .before .before .before .if2 .left))
-    ∙ skip _ _ (ne-eqb _ _ (c .before .before .if3 .left))
-    ∙ skip _ _ (ne-eqb _ _ (c .before .if4 .left))
-    ∙ skip _ _ (ne-eqb _ _ (c .if6 .left))))
+    rw (
+      le-ltb _ _ (w .before .if1 .left),
+      ← w .read-u32 .ensures,
+      ne-eqb _ _ (c .before .before .before .if2 .left),
+      ne-eqb _ _ (c .before .before .if3 .left),
+      ne-eqb _ _ (c .before .if4 .left),
+      ne-eqb _ _ (c .if6 .left),
+    )
 
 pub step-at-spec : {M : Type 1} → statement M
 step-at-spec =

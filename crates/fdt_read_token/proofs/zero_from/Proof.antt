@@ -2,7 +2,7 @@
 use mathlib.Core.Path.{sym, _∙_}
 use native.Mathlib.Omega.{arith}
 use borrow.Author.Needs.{needs}
-use Rattle.fdt_format.proofs.Walks.{zero-none}
+use Rattle.fdt_format.proofs.Steps.{zero-none}
 use Rattle.fdt_read_token.proofs.Zeros.{zero-found}
 use Rattle.fdt_read_token.proofs.zero_from.Statement.{statement}
 use Rattle.fdt_read_token.proofs.zero_from.Tie as tie

@@ -1,0 +1,153 @@
+-- What stands at a state: each token moves the place on inside the structure, and begins a node, is a property or ends a node.
+use mathlib.Core.Path.{_≡_, refl, subst}
+use mathlib.Core.Bool.{Bool, true, false, cond}
+use mathlib.Core.List.{List}
+use Prim.Native.Nat.{ℕ, zero, suc, _+_, _-_, _≤_, _<_}
+use native.Mathlib.Omega.{arith}
+use native.Mathlib.Numerals.{add-one}
+use borrow.Author.Tests.{ltb-false, eqb-true, eqb-false, eq-eqb, ne-eqb}
+use lib.Dec.{eqb, leb, ltb}
+use lib.ListN.{getD, take, drop}
+use Rattle.fdt_bytes.specs.BigEndian.{wordAt}
+use Rattle.fdt_bytes.specs.Padding.{roundUp}
+use Rattle.fdt_format.specs.declared.Areas.{Areas}
+use Rattle.fdt_format.specs.declared.Entry.{Entry}
+use Rattle.fdt_format.specs.declared.State.{State}
+use Rattle.fdt_format.specs.declared.Step.{Step}
+use Rattle.fdt_format.specs.declared.Step.the-variants as step
+use Rattle.fdt_format.specs.Description.{Property, _≔_}
+use Rattle.fdt_format.specs.Events.{begins, has, ends}
+use Rattle.fdt_format.specs.Reading.{nameAt, eventAt}
+use Rattle.fdt_format.specs.Step.{zeroFrom, beginAt, propertyAt, endAt, finalAt, stepAt}
+use Rattle.fdt_format.specs.Tokens.{beginToken, endToken, propertyToken, finalToken}
+
+-- what holds of both answers of a test
+pub by-test : {A : Type 0} (P : A → Type 0) (t : Bool) (a b : A) → (t ≡ true → P a) → (t ≡ false → P b) → P (cond t a b)
+by-test P true a b f g = f refl
+by-test P false a b f g = g refl
+
+-- ---- the first 0 from a place i on, before a place e
+
+module _ (b : List ℕ) (e i : ℕ) where
+  -- there is nothing to search
+  pub zero-none : e ≤ i → zeroFrom b (e - i) i ≡ i
+  unfolding zeroFrom
+  zero-none h = let z : e - i ≡ 0 = omega arith in rw z
+
+  one-more : i < e → zeroFrom b (e - i) i ≡ cond (eqb (getD b i 0) 0) i (zeroFrom b (e - (i + 1)) (i + 1))
+  unfolding zeroFrom
+  one-more h =
+      let z : e - i ≡ suc (e - (i + 1)) = omega arith in
+      rw (z, add-one i)
+
+  -- it stands here
+  pub zero-here : i < e → getD b i 0 ≡ 0 → zeroFrom b (e - i) i ≡ i
+  zero-here h z = rw (one-more h, eq-eqb _ _ z)
+
+  -- it stands further on
+  pub zero-on : i < e → (getD b i 0 ≡ 0 → ⊥) → zeroFrom b (e - i) i ≡ zeroFrom b (e - (i + 1)) (i + 1)
+  zero-on h n = rw (one-more h, ne-eqb _ _ n)
+
+-- it is not before the place
+pub zero-ge : (b : List ℕ) (k at : ℕ) → at ≤ zeroFrom b k at
+unfolding zeroFrom
+zero-ge b zero at = omega arith
+zero-ge b (suc k) at =
+    by-test (λ (n : ℕ). at ≤ n) (eqb (getD b at 0) 0) at (zeroFrom b k (suc at)) (λ _. omega arith) (λ _. omega (arith, zero-ge b k (suc at)))
+
+-- ---- what an entry tells, by its token
+
+module _ (b : List ℕ) (t : Entry) where
+  pub event-begins : t .token ≡ beginToken → eventAt b t ≡ begins (nameAt b (t .name))
+  unfolding eventAt
+  event-begins e = rw e
+
+  pub event-ends : t .token ≡ endToken → eventAt b t ≡ ends
+  unfolding eventAt
+  event-ends e = rw e
+
+  pub event-has : t .token ≡ propertyToken → eventAt b t ≡ has (nameAt b (t .name) ≔ take (t .size) (drop (t .place + 12) b))
+  unfolding eventAt
+  event-has e = rw e
+
+-- ---- how a token moves the state
+
+-- the place moves on, and not past the structure's end
+pub record Moved (a : Areas) (s s' : State) : Type 0 where
+  pub on : s .at < s' .at
+  pub within : s' .at ≤ a .«structure_end»
+
+-- an entry begins a node, is a property where one may come, or ends a node
+pub data Kind (b : List ℕ) (s : State) (t : Entry) (s' : State) : Type 0 where
+  opens : (name : List ℕ) → eventAt b t ≡ begins name → s' .depth ≡ suc (s .depth) → s' .«takes_property» ≡ true → Kind b s t s'
+  adds : (p : Property) → eventAt b t ≡ has p → s' .depth ≡ s .depth → s .«takes_property» ≡ true → s' .«takes_property» ≡ true → Kind b s t s'
+  closes : eventAt b t ≡ ends → suc (s' .depth) ≡ s .depth → s' .«takes_property» ≡ false → Kind b s t s'
+
+-- what stands at a state does both, or is the final word where no node is open, or is refused
+unfoldable pub Stepped : List ℕ → Areas → State → Step → Type 0
+Stepped b a s (step.Entry t s') = Moved a s s' × Kind b s t s'
+Stepped b a s step.Final = s .depth ≡ 0
+Stepped b a s (step.Bad n) = Unit {0}
+
+roundUp-ge : (m n : ℕ) → n ≤ roundUp m n
+unfolding roundUp
+roundUp-ge m n = omega arith
+
+module _ (b : List ℕ) (a : Areas) (s : State) where
+  begin-stepped : Stepped b a s (beginAt b a s)
+  unfolding beginAt Stepped
+  begin-stepped =
+      let from : ℕ = s .at + 4 in
+      let zero : ℕ = zeroFrom b (a .«structure_end» - from) from in
+      by-test (Stepped b a s) (leb (a .«structure_end») zero) _ _ (λ _. tt)
+      λ _. by-test (Stepped b a s) (ltb (a .«structure_end») (roundUp 4 (zero + 1))) _ _ (λ _. tt)
+      λ h. (
+        record {
+          on = omega (arith, roundUp-ge 4 (zero + 1), zero-ge b (a .«structure_end» - from) from);
+          within = ltb-false _ _ h;
+        },
+        opens _ (event-begins b _ refl) (omega arith) refl,
+      )
+
+  property-stepped : s .«takes_property» ≡ true → Stepped b a s (propertyAt b a s)
+  unfolding propertyAt Stepped
+  property-stepped r =
+      let left : ℕ = a .«structure_end» - s .at in
+      let size : ℕ = roundUp 4 (wordAt b (s .at + 4)) in
+      let name : ℕ = a .strings + wordAt b (s .at + 8) in
+      by-test (Stepped b a s) (ltb left 12) _ _ (λ _. tt)
+      λ k. by-test (Stepped b a s) (ltb (left - 12) size) _ _ (λ _. tt)
+      λ h. by-test (Stepped b a s) (leb (a .«strings_end») (zeroFrom b (a .«strings_end» - name) name)) _ _ (λ _. tt)
+      λ _. (
+        record { on = omega arith; within = omega (arith, ltb-false left 12 k, ltb-false (left - 12) size h) },
+        adds _ (event-has b _ refl) refl r refl,
+      )
+
+  end-stepped : ltb (a .«structure_end» - s .at) 4 ≡ false → Stepped b a s (endAt s)
+  unfolding endAt Stepped
+  end-stepped k =
+      by-test (Stepped b a s) (eqb (s .depth) 0) _ _ (λ _. tt)
+      λ h. let n : s .depth ≡ 0 → ⊥ = eqb-false _ _ h in (
+        record { on = omega arith; within = omega (arith, ltb-false (a .«structure_end» - s .at) 4 k) },
+        closes (event-ends b _ refl) (omega (arith, n)) refl,
+      )
+
+  final-stepped : Stepped b a s (finalAt a s)
+  unfolding finalAt Stepped
+  final-stepped =
+      by-test (Stepped b a s) (eqb (s .depth) 0) _ _
+      (λ h. by-test (Stepped b a s) (eqb (s .at + 4) (a .«structure_end»)) _ _ (λ _. eqb-true _ _ h) (λ _. tt)) (λ _. tt)
+
+  pub step-stepped : Stepped b a s (stepAt b a s)
+  unfolding stepAt Stepped
+  step-stepped =
+      let word : ℕ = wordAt b (s .at) in
+      by-test (Stepped b a s) (ltb (a .«structure_end» - s .at) 4) _ _ (λ _. tt)
+      λ k. by-test (Stepped b a s) (eqb word beginToken) _ _ (λ _. begin-stepped)
+      λ _. by-test (Stepped b a s) (eqb word endToken) _ _ (λ _. end-stepped k)
+      λ _. by-test (Stepped b a s) (eqb word propertyToken) _ _ (λ _. by-test (Stepped b a s) (s .«takes_property») _ _ property-stepped (λ _. tt))
+      λ _. by-test (Stepped b a s) (eqb word finalToken) _ _ (λ _. final-stepped) (λ _. tt)
+
+  pub moved : {t : Entry} {s' : State} → stepAt b a s ≡ step.Entry t s' → Moved a s s'
+  unfolding Stepped
+  moved q = subst (Stepped b a s) q step-stepped .0
