@@ -12,6 +12,7 @@ use Rattle.fdt_format.specs.declared.Entry.{Entry}
 use Rattle.fdt_format.specs.declared.State.{State}
 use Rattle.fdt_format.specs.declared.Step.{Step}
 use Rattle.fdt_format.specs.declared.Step.the-variants as step
+use Rattle.fdt_format.specs.declared.Unreadable.{Unreadable}
 use Rattle.fdt_format.specs.Description.{Property, Nodes, Reservation, Description}
 use Rattle.fdt_format.specs.Events.{Event, begins, has, ends, events, nodesOf}
 use Rattle.fdt_format.specs.Reading.{areasOf, goodHeader, eventAt, walkNodes, described, readReservations, readNodes, reading}
@@ -57,7 +58,7 @@ front es (closes e d r) o h = rw (e, ← d) (rw r at h)
 
 -- ---- the walk
 
-bad-not-good : {n : ℕ} {ts : List Entry} → bad n ≡ good ts → ⊥
+bad-not-good : {r : Unreadable} {ts : List Entry} → bad r ≡ good ts → ⊥
 bad-not-good q = let z : _≡_ {A = ℕ} 0 1 = cc in omega arith
 
 -- a good walk with an entry in front: the walk on from it was good
@@ -67,7 +68,7 @@ record Split (t : Entry) (on : Walk) (ts : List Entry) : Type 0 where
   all : t ∷ rest ≡ ts
 
 split : (t : Entry) (on : Walk) (ts : List Entry) → more t on ≡ good ts → Split t on ts
-split t (bad n) ts q = absurd (bad-not-good q)
+split t (bad r) ts q = absurd (bad-not-good q)
 split t (good rest) ts q = record { rest = rest; is = refl; all = cc }
 
 module _ (b : List ℕ) where
@@ -80,7 +81,7 @@ module _ (b : List ℕ) where
       let h : Ordered s' (map (eventAt b) (p .rest)) = ih s' (open-on (k .1) o) (p .rest) (p .is) in
       subst (λ (l : List Entry). Ordered s (map (eventAt b) l)) (p .all) (front (map (eventAt b) (p .rest)) (k .1) o h)
   here a on s o ih step.Final k ts q = let n : [] ≡ ts = cc in rw (← n) k
-  here a on s o ih (step.Bad n) k ts q = absurd (bad-not-good q)
+  here a on s o ih (step.Bad r) k ts q = absurd (bad-not-good q)
 
   module _ (a : Areas) where
     ordered : (k : ℕ) (s : State) → Open s → (ts : List Entry) → steps (stepAt b a) k s ≡ good ts → Ordered s (map (eventAt b) ts)
@@ -122,7 +123,7 @@ described-parts boot (some rs) (some f) d q =
 
 walked-good : (b : List ℕ) (w : Walk) (f : Nodes) → walkNodes b w ≡ some f → (ts : List Entry) × (w ≡ good ts) × (nodesOf (map (eventAt b) ts) ≡ some f)
 unfolding walkNodes
-walked-good b (bad n) f q = absurd (Option·none-ne-some f q)
+walked-good b (bad r) f q = absurd (Option·none-ne-some f q)
 walked-good b (good ts) f q = (ts, refl, q)
 
 module _ (b : List ℕ) where

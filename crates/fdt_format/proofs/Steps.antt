@@ -87,7 +87,7 @@ pub data Kind (b : List ℕ) (s : State) (t : Entry) (s' : State) : Type 0 where
 unfoldable pub Stepped : List ℕ → Areas → State → Step → Type 0
 Stepped b a s (step.Entry t s') = Moved a s s' × Kind b s t s'
 Stepped b a s step.Final = s .depth ≡ 0
-Stepped b a s (step.Bad n) = Unit {0}
+Stepped b a s (step.Bad r) = Unit {0}
 
 roundUp-ge : (m n : ℕ) → n ≤ roundUp m n
 unfolding roundUp

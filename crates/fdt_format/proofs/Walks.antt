@@ -16,20 +16,20 @@ use Rattle.fdt_format.proofs.Steps.{Moved, Stepped, step-stepped}
 unfoldable pub Moves : Areas → State → Step → Type 0
 Moves a s (step.Entry t s') = Moved a s s'
 Moves a s step.Final = Unit {0}
-Moves a s (step.Bad n) = Unit {0}
+Moves a s (step.Bad r) = Unit {0}
 
 stepped-moves : (b : List ℕ) (a : Areas) (s : State) (x : Step) → Stepped b a s x → Moves a s x
 unfolding Stepped Moves
 stepped-moves b a s (step.Entry t s') h = h .0
 stepped-moves b a s step.Final h = tt
-stepped-moves b a s (step.Bad n) h = tt
+stepped-moves b a s (step.Bad r) h = tt
 
 -- what follows a token is the same for two walks that agree past it
 follow-same : (a : Areas) (s : State) (x : Step) → Moves a s x → (g h : State → Walk) → ((s' : State) → Moved a s s' → g s' ≡ h s') → follow x g ≡ follow x h
 unfolding Moves
 follow-same a s (step.Entry t s') m g h same = ap (more t) (same s' m)
 follow-same a s step.Final m g h same = refl
-follow-same a s (step.Bad n) m g h same = refl
+follow-same a s (step.Bad r) m g h same = refl
 
 module _ (a : Areas) (token : State → Step) (moves : (s : State) → s .at ≤ a .«structure_end» → Moves a s (token s)) where
   -- any bound above what is left gives the same

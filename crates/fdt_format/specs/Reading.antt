@@ -77,7 +77,7 @@ eventAt b t =
 
 -- the nodes of a walk
 unfoldable pub walkNodes : List ℕ → Walk → Option Nodes
-walkNodes b (bad n) = none
+walkNodes b (bad r) = none
 walkNodes b (good ts) = nodesOf (map (eventAt b) ts)
 
 -- a description, where its reservations and its nodes were read

@@ -11,15 +11,8 @@ use Rattle.fdt_format.specs.declared.Entry.{Entry}
 use Rattle.fdt_format.specs.declared.State.{State}
 use Rattle.fdt_format.specs.declared.Step.{Step}
 use Rattle.fdt_format.specs.declared.Step.the-variants as step
+use Rattle.fdt_format.specs.declared.Unreadable.the-variants.{Structure, NameOffset}
 use Rattle.fdt_format.specs.Tokens.{beginToken, endToken, propertyToken, finalToken}
-
--- the number that a token out of order gets from a reader (document 02, request 1)
-abbrev pub disorder : ℕ
-disorder = 23
-
--- and a name offset that meets no 0
-abbrev pub nameless : ℕ
-nameless = 24
 
 -- the first place from `at` on that holds a 0, or the place k further
 unfoldable pub zeroFrom : List ℕ → ℕ → ℕ → ℕ
@@ -30,8 +23,8 @@ zeroFrom b (suc k) at = cond (eqb (getD b at 0) 0) at (zeroFrom b k (suc at))
 unfoldable pub beginAt : List ℕ → Areas → State → Step
 beginAt b a s =
     let end : ℕ = zeroFrom b (a .«structure_end» - (s .at + 4)) (s .at + 4) in
-    cond (leb (a .«structure_end») end) (step.Bad disorder)
-    (cond (ltb (a .«structure_end») (roundUp 4 (end + 1))) (step.Bad disorder)
+    cond (leb (a .«structure_end») end) (step.Bad Structure)
+    (cond (ltb (a .«structure_end») (roundUp 4 (end + 1))) (step.Bad Structure)
     (step.Entry
     (record { token = beginToken; place = s .at; name = s .at + 4; size = 0 })
     (record { at = roundUp 4 (end + 1); depth = s .depth + 1; «takes_property» = true })))
@@ -41,9 +34,9 @@ unfoldable pub propertyAt : List ℕ → Areas → State → Step
 propertyAt b a s =
     let size : ℕ = wordAt b (s .at + 4) in
     let name : ℕ = a .strings + wordAt b (s .at + 8) in
-    cond (ltb (a .«structure_end» - s .at) 12) (step.Bad disorder)
-    (cond (ltb (a .«structure_end» - s .at - 12) (roundUp 4 size)) (step.Bad disorder)
-    (cond (leb (a .«strings_end») (zeroFrom b (a .«strings_end» - name) name)) (step.Bad nameless)
+    cond (ltb (a .«structure_end» - s .at) 12) (step.Bad Structure)
+    (cond (ltb (a .«structure_end» - s .at - 12) (roundUp 4 size)) (step.Bad Structure)
+    (cond (leb (a .«strings_end») (zeroFrom b (a .«strings_end» - name) name)) (step.Bad NameOffset)
     (step.Entry
     (record { token = propertyToken; place = s .at; name = name; size = size })
     (record { at = s .at + 12 + roundUp 4 size; depth = s .depth; «takes_property» = true }))))
@@ -51,7 +44,7 @@ propertyAt b a s =
 -- word 2: a node is open
 unfoldable pub endAt : State → Step
 endAt s =
-    cond (eqb (s .depth) 0) (step.Bad disorder)
+    cond (eqb (s .depth) 0) (step.Bad Structure)
     (step.Entry
     (record { token = endToken; place = s .at; name = 0; size = 0 })
     (record { at = s .at + 4; depth = s .depth - 1; «takes_property» = false }))
@@ -60,15 +53,15 @@ endAt s =
 unfoldable pub finalAt : Areas → State → Step
 finalAt a s =
     cond (eqb (s .depth) 0)
-    (cond (eqb (s .at + 4) (a .«structure_end»)) step.Final (step.Bad disorder))
-    (step.Bad disorder)
+    (cond (eqb (s .at + 4) (a .«structure_end»)) step.Final (step.Bad Structure))
+    (step.Bad Structure)
 
 -- the token at a state: 1, 2, 3 (before the node's children) or 9, inside the structure
 unfoldable pub stepAt : List ℕ → Areas → State → Step
 stepAt b a s =
-    cond (ltb (a .«structure_end» - s .at) 4) (step.Bad disorder)
+    cond (ltb (a .«structure_end» - s .at) 4) (step.Bad Structure)
     (cond (eqb (wordAt b (s .at)) beginToken) (beginAt b a s)
     (cond (eqb (wordAt b (s .at)) endToken) (endAt s)
-    (cond (eqb (wordAt b (s .at)) propertyToken) (cond (s .«takes_property») (propertyAt b a s) (step.Bad disorder))
+    (cond (eqb (wordAt b (s .at)) propertyToken) (cond (s .«takes_property») (propertyAt b a s) (step.Bad Structure))
     (cond (eqb (wordAt b (s .at)) finalToken) (finalAt a s)
-    (step.Bad disorder)))))
+    (step.Bad Structure)))))

@@ -7,33 +7,35 @@ use Rattle.fdt_format.specs.declared.Entry.{Entry}
 use Rattle.fdt_format.specs.declared.State.{State}
 use Rattle.fdt_format.specs.declared.Step.{Step}
 use Rattle.fdt_format.specs.declared.Step.the-variants as step
-use Rattle.fdt_format.specs.Step.{disorder, stepAt}
+use Rattle.fdt_format.specs.declared.Unreadable.{Unreadable}
+use Rattle.fdt_format.specs.declared.Unreadable.the-variants.{Structure}
+use Rattle.fdt_format.specs.Step.{stepAt}
 
--- refused with a number, or the entries in order
+-- refused, or the entries in order
 pub data Walk : Type 0 where
-  bad : ℕ → Walk
+  bad : Unreadable → Walk
   good : List Entry → Walk
 
 -- an entry in front
 abbrev pub more : Entry → Walk → Walk
-more t (bad n) = bad n
+more t (bad r) = bad r
 more t (good ts) = good (t ∷ ts)
 
 -- a token, and the walk on from it
 abbrev pub follow : Step → (State → Walk) → Walk
 follow (step.Entry t s) on = more t (on s)
 follow step.Final on = good []
-follow (step.Bad n) on = bad n
+follow (step.Bad r) on = bad r
 
 -- at most k tokens, by what stands at each state
 unfoldable pub steps : (State → Step) → ℕ → State → Walk
-steps token zero s = bad disorder
+steps token zero s = bad Structure
 steps token (suc k) s = follow (token s) (steps token k)
 
 -- all tokens: each takes a byte at least, so that this bound refuses nothing (`walk-step`)
 unfoldable pub walk : List ℕ → Areas → State → Walk
 walk b a s = steps (stepAt b a) (suc (a .«structure_end» - s .at)) s
 
--- where a walk begins: no node is open, and no property may stand here
+-- where a walk begins: no node is open, and no property may come here
 unfoldable pub start : Areas → State
 start a = record { at = a .structure; depth = 0; «takes_property» = false }

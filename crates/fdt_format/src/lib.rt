@@ -1,4 +1,6 @@
-// What the reading of a blob speaks of. What a blob describes and how it is read is defined in specs/.
+// What a reader of blobs works with: token words, areas, states, entries and refusals. specs/ defines what a blob describes and how it is read.
+ghost use mathlib.Core.Path.{_≡_};
+ghost use Rattle.fdt_format.specs.Refusals.{numberOf};
 
 // The word that begins a node.
 pub const FDT_BEGIN_NODE: u32 = 1;
@@ -12,7 +14,7 @@ pub const FDT_PROP: u32 = 3;
 // The word after the last node.
 pub const FDT_END: u32 = 9;
 
-// The areas of a blob that its header names: where each begins, where structure and strings end; and the boot number.
+// The areas that a blob's header names: where each begins, where structure and strings end. Also the boot number.
 pub struct Areas {
     pub reservations: usize,
     pub structure: usize,
@@ -22,14 +24,17 @@ pub struct Areas {
     pub boot: u32,
 }
 
-// Where a reading stands: a place of the blob, how many nodes are open, and whether a property may stand here.
+// Where a reading is.
 pub struct State {
+    // the next place of the blob
     pub at: usize,
+    // how many nodes are open
     pub depth: usize,
+    // whether a property may come here
     pub takes_property: bool,
 }
 
-// A token that was read: its word, its place, the place of its name, and the size of its value.
+// A token that was read: its word, its place, the place of its name, and the length of its value.
 pub struct Entry {
     pub token: u32,
     pub place: u32,
@@ -37,9 +42,30 @@ pub struct Entry {
     pub size: u32,
 }
 
-// What stands at a state: an entry and the state after it, the final word, or a refusal with its number.
+// Why a blob cannot be read. The numbers are those of document 02, request 1/14; its reader adds 21, 25 and 30.
+pub enum Unreadable {
+    // 22: no all-zero pair ends the reservations inside the blob.
+    Reservations,
+    // 23: a token that may not come here, or that does not end inside the structure.
+    Structure,
+    // 24: a name offset that meets no 0 inside the strings.
+    NameOffset,
+}
+
+// The number of a refusal.
+pub fn number(refusal: Unreadable) -> u32
+    ensures { λ r. ⌜ r ≡ numberOf refusal ⌝ }
+{
+    match refusal {
+        Unreadable::Reservations => 22,
+        Unreadable::Structure => 23,
+        Unreadable::NameOffset => 24,
+    }
+}
+
+// What a state has: an entry and the state after it, the final word, or a refusal.
 pub enum Step {
     Entry(Entry, State),
     Final,
-    Bad(u32),
+    Bad(Unreadable),
 }

@@ -8,28 +8,29 @@ use native.Mathlib.Omega.{arith}
 use lib.Dec.{eqb}
 use lib.ListN.{length}
 use Rattle.fdt_bytes.specs.BigEndian.{wideAt}
+use Rattle.fdt_format.specs.declared.Unreadable.the-variants as unreadable
 use Rattle.fdt_format.specs.Description.{Reservation}
 use Rattle.fdt_format.specs.Reading.{reservation, reservationsAt}
-use Rattle.fdt_read_header.specs.declared.Reserved.{Reserved}
-use Rattle.fdt_read_header.specs.declared.Reserved.the-variants as reserved
+use Rattle.fdt_read_header.specs.declared.Reservations.{Reservations}
+use Rattle.fdt_read_header.specs.declared.Reservations.the-variants.{Count, Refused}
 use Rattle.fdt_read_header.specs.Counted.{counted}
 
 -- the same behind n reservations
-unfoldable pub countedFrom : ℕ → Option (List Reservation) → Reserved
-countedFrom n none = reserved.Endless
-countedFrom n (some rs) = reserved.Pairs (n + length rs)
+unfoldable pub countedFrom : ℕ → Option (List Reservation) → Reservations
+countedFrom n none = Refused unreadable.Reservations
+countedFrom n (some rs) = Count (n + length rs)
 
 -- behind none it is the same
 pub from-0 : (rs : Option (List Reservation)) → counted rs ≡ countedFrom 0 rs
 unfolding counted countedFrom
 from-0 none = refl
-from-0 (some rs) = ap reserved.Pairs (omega arith)
+from-0 (some rs) = ap Count (omega arith)
 
 -- one reservation more in front
 one-more : (address size n : ℕ) (rs : Option (List Reservation)) → countedFrom n (reservation address size rs) ≡ countedFrom (n + 1) rs
 unfolding countedFrom reservation
 one-more address size n none = refl
-one-more address size n (some rs) = ap reserved.Pairs (omega arith)
+one-more address size n (some rs) = ap Count (omega arith)
 
 -- whether the pair at a place is all zero
 abbrev pub zeroPair : List ℕ → ℕ → Bool
@@ -42,15 +43,15 @@ module _ (b : List ℕ) (n left at : ℕ) where
   unrolled more = let e : left ≡ suc (left - 1) = omega arith in ap (λ (m : ℕ). reservationsAt b m at) e
 
   -- the all-zero pair stands here
-  pub ends-here : 0 < left → zeroPair b at ≡ true → countedFrom n (reservationsAt b left at) ≡ reserved.Pairs n
+  pub ends-here : 0 < left → zeroPair b at ≡ true → countedFrom n (reservationsAt b left at) ≡ Count n
   unfolding countedFrom
-  ends-here more z = rw (unrolled more, z) (ap reserved.Pairs (omega arith))
+  ends-here more z = rw (unrolled more, z) (ap Count (omega arith))
 
   -- a reservation stands here
   pub goes-on : 0 < left → zeroPair b at ≡ false → countedFrom n (reservationsAt b left at) ≡ countedFrom (n + 1) (reservationsAt b (left - 1) (at + 16))
   goes-on more z = rw (unrolled more, z) (one-more _ _ n _)
 
   -- no pair is left
-  pub none-left : left ≡ 0 → countedFrom n (reservationsAt b left at) ≡ reserved.Endless
+  pub none-left : left ≡ 0 → countedFrom n (reservationsAt b left at) ≡ Refused unreadable.Reservations
   unfolding countedFrom reservationsAt
   none-left e = rw e

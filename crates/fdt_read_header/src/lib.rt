@@ -2,6 +2,7 @@
 use fdt_bytes::read_u32;
 use fdt_bytes::read_u64;
 use fdt_format::Areas;
+use fdt_format::Unreadable;
 use fdt_header::Header;
 use fdt_header::RESERVATION_SIZE;
 ghost use mathlib.Core.Path.{_≡_};
@@ -13,10 +14,10 @@ ghost use Rattle.fdt_bytes.specs.BigEndian.{wordAt, wideAt};
 ghost use Rattle.fdt_format.specs.Reading.{areasOf, goodWords, goodAreas, reservationsAt, readReservations};
 ghost use Rattle.fdt_read_header.specs.Counted.{counted};
 
-// How many reservations there are before the all-zero pair, or none where there is no such pair.
-pub enum Reserved {
-    Pairs(usize),
-    Endless,
+// How many reservations come before the all-zero pair, or a refusal where no such pair is inside the blob.
+pub enum Reservations {
+    Count(usize),
+    Refused(Unreadable),
 }
 
 // Whether a blob's length is its total size and magic and versions match.
@@ -91,7 +92,7 @@ fn zero_pair(blob: &[u8], at: usize) -> bool
 }
 
 // How many reservations begin at a place before the all-zero pair, which must be one of `most` pairs.
-fn pairs_from(blob: &[u8], from: usize, most: usize) -> Reserved
+fn pairs_from(blob: &[u8], from: usize, most: usize) -> Reservations
     requires { ⌜ from + 16 * most ≤ length (now blob) ⌝ }
     ensures { λ r. ⌜ r ≡ counted (reservationsAt (now (blob .entry)) most from) ⌝ }
 {
@@ -100,22 +101,22 @@ fn pairs_from(blob: &[u8], from: usize, most: usize) -> Reserved
     let mut n = 0;
     while 0 < left {
         if zero_pair(blob, at) {
-            return Reserved::Pairs(n);
+            return Reservations::Count(n);
         }
         at += RESERVATION_SIZE;
         left -= 1;
         n += 1;
     }
-    Reserved::Endless
+    Reservations::Refused(Unreadable::Reservations)
 }
 
 // How many reservations a blob has.
-pub fn reservations_of(blob: &[u8], a: Areas) -> Reserved
+pub fn reservations_of(blob: &[u8], a: Areas) -> Reservations
     ensures { λ r. ⌜ r ≡ counted (readReservations (now (blob .entry)) a) ⌝ }
 {
     let at = a.reservations;
     if blob.len() < at {
-        return Reserved::Endless;
+        return Reservations::Refused(Unreadable::Reservations);
     }
     pairs_from(blob, at, (blob.len() - at) / RESERVATION_SIZE)
 }

@@ -8,7 +8,8 @@ use Rattle.fdt_bytes.specs.BigEndian.{wordAt}
 use Rattle.fdt_format.specs.declared.Areas.{Areas}
 use Rattle.fdt_format.specs.declared.State.{State}
 use Rattle.fdt_format.specs.declared.Step.the-variants as step
-use Rattle.fdt_format.specs.Step.{disorder, beginAt, propertyAt, endAt, finalAt, stepAt}
+use Rattle.fdt_format.specs.declared.Unreadable.the-variants.{Structure}
+use Rattle.fdt_format.specs.Step.{beginAt, propertyAt, endAt, finalAt, stepAt}
 use Rattle.fdt_format.specs.Tokens.{beginToken, endToken, propertyToken, finalToken}
 
 module _ (b : List ℕ) (a : Areas) (s : State) (whole : ltb (a .«structure_end» - s .at) 4 ≡ false) where
@@ -24,7 +25,7 @@ module _ (b : List ℕ) (a : Areas) (s : State) (whole : ltb (a .«structure_end
   unfolding stepAt
   at-property e r = rw (whole, e, r)
 
-  pub late-property : wordAt b (s .at) ≡ propertyToken → s .«takes_property» ≡ false → stepAt b a s ≡ step.Bad disorder
+  pub late-property : wordAt b (s .at) ≡ propertyToken → s .«takes_property» ≡ false → stepAt b a s ≡ step.Bad Structure
   unfolding stepAt
   late-property e r = rw (whole, e, r)
 

@@ -9,17 +9,12 @@ use fdt_format::FDT_END_NODE;
 use fdt_format::FDT_PROP;
 use fdt_format::State;
 use fdt_format::Step;
+use fdt_format::Unreadable;
 ghost use mathlib.Core.Path.{_≡_};
 ghost use Prim.Native.Nat.{_+_, _-_, _≤_, _<_, _^_};
 ghost use lib.ListN.{length};
 ghost use Rattle.fdt_format.specs.Step.{zeroFrom, beginAt, propertyAt, endAt, finalAt, stepAt};
 ghost use Rattle.fdt_read_token.specs.Inside.{Inside, Fits};
-
-// A token out of order, or one that is not whole.
-pub const DISORDER: u32 = 23;
-
-// A name offset that meets no 0.
-pub const NAMELESS: u32 = 24;
 
 // The first place from `at` on and before `end` that holds a 0; otherwise the later of the two.
 pub fn zero_from(blob: &[u8], at: usize, end: usize) -> usize
@@ -41,11 +36,11 @@ fn begin_at(blob: &[u8], a: Areas, s: State) -> Step
     let name = at + 4;
     let zero = zero_from(blob, name, a.structure_end);
     if a.structure_end <= zero {
-        return Step::Bad(DISORDER);
+        return Step::Bad(Unreadable::Structure);
     }
     let next = round_up(zero + 1, 4);
     if a.structure_end < next {
-        return Step::Bad(DISORDER);
+        return Step::Bad(Unreadable::Structure);
     }
     Step::Entry(
         Entry {
@@ -70,16 +65,16 @@ fn property_at(blob: &[u8], a: Areas, s: State) -> Step
     let at = s.at;
     let left = a.structure_end - at;
     if left < 12 {
-        return Step::Bad(DISORDER);
+        return Step::Bad(Unreadable::Structure);
     }
     let size = read_u32(blob, at + 4);
     let whole = round_up(size as usize, 4);
     if left - 12 < whole {
-        return Step::Bad(DISORDER);
+        return Step::Bad(Unreadable::Structure);
     }
     let name = a.strings + read_u32(blob, at + 8) as usize;
     if a.strings_end <= zero_from(blob, name, a.strings_end) {
-        return Step::Bad(NAMELESS);
+        return Step::Bad(Unreadable::NameOffset);
     }
     Step::Entry(
         Entry {
@@ -103,7 +98,7 @@ fn end_at(s: State) -> Step
 {
     let at = s.at;
     if s.depth == 0 {
-        return Step::Bad(DISORDER);
+        return Step::Bad(Unreadable::Structure);
     }
     Step::Entry(
         Entry {
@@ -126,10 +121,10 @@ fn final_at(a: Areas, s: State) -> Step
     ensures { λ r. ⌜ r ≡ finalAt a s ⌝ }
 {
     if s.depth != 0 {
-        return Step::Bad(DISORDER);
+        return Step::Bad(Unreadable::Structure);
     }
     if s.at + 4 != a.structure_end {
-        return Step::Bad(DISORDER);
+        return Step::Bad(Unreadable::Structure);
     }
     Step::Final
 }
@@ -141,7 +136,7 @@ pub fn step_at(blob: &[u8], a: Areas, s: State) -> Step
 {
     let at = s.at;
     if a.structure_end - at < 4 {
-        return Step::Bad(DISORDER);
+        return Step::Bad(Unreadable::Structure);
     }
     let word = read_u32(blob, at);
     if word == FDT_BEGIN_NODE {
@@ -154,10 +149,10 @@ pub fn step_at(blob: &[u8], a: Areas, s: State) -> Step
         if s.takes_property {
             return property_at(blob, a, s);
         }
-        return Step::Bad(DISORDER);
+        return Step::Bad(Unreadable::Structure);
     }
     if word == FDT_END {
         return final_at(a, s);
     }
-    Step::Bad(DISORDER)
+    Step::Bad(Unreadable::Structure)
 }

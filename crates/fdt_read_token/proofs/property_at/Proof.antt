@@ -22,8 +22,8 @@ returns-3 c =
     let w = c .before .before .before .before in
     rw (← w .before .before .before .read-u32 .ensures, ← w .before .before .round-up .ensures, ← w .read-u322 .ensures, ← c .before .before .zero-from .ensures, le-ltb _ _ (w .before .before .before .before .if1 .left), le-ltb _ _ (w .before .if2 .left), le-leb _ _ (c .if3 .taken))
 
-cast-t13 : tie.Need-cast-t13
-cast-t13 c = omega (arith, found-ge _ _ _ _ (c .before .before .zero-from .ensures))
+cast-t16 : tie.Need-cast-t16
+cast-t16 c = omega (arith, found-ge _ _ _ _ (c .before .before .zero-from .ensures))
 
 returns-4 : tie.Need-returns-4
 unfolding propertyAt
@@ -42,6 +42,6 @@ property-at-spec =
     (λ c. search needs) (λ c κs. search needs) (λ c. search needs) (λ c. search needs) (λ c κs. search needs)
     returns-3
     (λ c. search needs)
-    cast-t13
+    cast-t16
     (λ c. search needs) (λ c. search needs)
     returns-4)
