@@ -1,18 +1,11 @@
-// Runs the leaves on the corners that document 01 names, and writes a line for each case: what was asked, and the answer.
-mod appended;
-mod names;
-mod reservations;
-mod said;
+// Runs the leaves on the cases in the file `stdin`, and writes each case with its answer.
+mod buffers;
+mod cases;
 mod strings;
-mod tables;
+mod tests;
 
 fn main() {
-    names::all();
-    reservations::entries();
-    reservations::overlaps();
-    strings::found();
-    strings::places();
-    strings::stored();
-    appended::numbers();
-    appended::padding();
+    let mut input = io::large_buffer();
+    let n = io::read_full(libc::STDIN_FILENO, &mut input);
+    cases::each(&input[..n]);
 }
