@@ -1,4 +1,4 @@
--- Exactly when a reservation is refused 8, and what it is otherwise, from the two tests of its definition.
+-- Exactly when a reservation is refused 8, and its values if it is not: by the two tests of the definition.
 use mathlib.Core.Path.{_≡_, refl, sym, ap, _∙_}
 use mathlib.Core.Bool.{Bool, true, false, cond, _||_}
 use mathlib.Core.List.{List, [], _∷_}
@@ -29,7 +29,7 @@ module _ (address size : ℕ) where
           neither (inl z) = eqb-false size 0 p z
           neither (inr g) = let m = leb-false (2 ^ 64) (address + size) q in omega arith
 
-  -- what is not refused is the reservation asked for
+  -- a reservation that is not refused has the address and size asked for
   pub accepted-values : numberOf (reserved address size) ≡ 0 → valuesOf (reserved address size) ≡ address ∷ size ∷ []
   unfolding reserved numberOf valuesOf
   accepted-values = go (invalid address size)
@@ -39,9 +39,9 @@ module _ (address size : ℕ) where
       go true h = absurd (omega arith)
       go false h = refl
 
--- What making the reservation at an index answered.
+-- The result of making reservation k, as read from the list.
 module _ (numbers : List ℕ) (k : ℕ) (entry : FdtReserveEntry) (answer : Reserved) (read : entry ≡ entryAt numbers k) (made : answer ≡ reserved (entry .address) (entry .size)) where
-  -- the definition's answer, by its test
+  -- the result by the definition's test
   made-by : answer ≡ cond (invalid (start numbers k) (size numbers k)) InvalidMemoryReservation (Entry (entryAt numbers k))
   unfolding reserved entryAt
   made-by = made ∙ ap (λ (e : FdtReserveEntry). reserved (e .address) (e .size)) read

@@ -1,6 +1,6 @@
--- Laws of overlapping reservations: two that share an address share the greater of their starts, so trying pairs finds every overlap.
+-- Laws of overlap: two reservations that share an address share the greater of their starts, so testing each pair finds every overlap.
 use mathlib.Core.Path.{_≡_, refl, sym, ap, subst, _∙_}
-use mathlib.Core.Bool.{Bool, true, false, _&&_, _||_, and-comm, and-false, and-true, true≢false}
+use mathlib.Core.Bool.{Bool, true, false, _&&_, _||_, and-comm, and-false, and-true, or-true, and-eq-true-iff, true≢false}
 use mathlib.Core.Logic.{_↔_}
 use mathlib.Core.List.{List}
 use Prim.Native.Nat.{ℕ, zero, suc, _+_, _-_, _*_, _/_, _≤_, _<_, max}
@@ -17,11 +17,6 @@ use Rattle.fdt_bytes.proofs.Tests.{same-test}
 use Rattle.fdt_reserve.specs.declared.FdtReserveEntry.{FdtReserveEntry}
 use Rattle.fdt_reserve.specs.Overlap.{start, size, entryAt, LiesIn, Overlap, some, share, overlapping}
 
--- both of two tests
-both : (a b : Bool) → (a && b) ≡ true → (a ≡ true) × (b ≡ true)
-both true b e = (refl, e)
-both false b e = absurd (true≢false (sym e))
-
 module _ (a s b t : ℕ) where
   -- ranges that share an address
   pub share-at : (x : ℕ) → a ≤ x → x < a + s → b ≤ x → x < b + t → share a s b t ≡ true
@@ -31,11 +26,11 @@ module _ (a s b t : ℕ) where
       let k : max a b < b + t = omega arith in
       simp (lt-ltb (max a b) (a + s) h, lt-ltb (max a b) (b + t) k)
 
-  -- the greater start, where they do
+  -- the address that they share: the greater start
   pub shared : share a s b t ≡ true → (max a b < a + s) × (max a b < b + t)
   unfolding share
   shared e =
-      let p = both (ltb (max a b) (a + s)) (ltb (max a b) (b + t)) e in
+      let p = and-eq-true-iff (ltb (max a b) (a + s)) (ltb (max a b) (b + t)) .0 e in
       (ltb-true (max a b) (a + s) (p .0), ltb-true (max a b) (b + t) (p .1))
 
 pub share-comm : (a s b t : ℕ) → share a s b t ≡ share b t a s
@@ -44,7 +39,7 @@ share-comm a s b t =
     and-comm (ltb (max a b) (a + s)) (ltb (max a b) (b + t))
     ∙ ap (λ (m : ℕ). ltb m (b + t) && ltb m (a + s)) (let e : max a b ≡ max b a = omega arith in e)
 
--- A range and a later one: the later one's start decides.
+-- The second range starts no earlier than the first: its start decides.
 module _ (a s b t : ℕ) (later : a ≤ b) where
   share-start : share a s b t ≡ (ltb (b - a) s && ltb 0 t)
   unfolding share
@@ -60,22 +55,18 @@ module _ (a s b t : ℕ) (later : a ≤ b) where
   pub share-later : (t ≡ 0 → ⊥) → share a s b t ≡ ltb (b - a) s
   share-later n = share-start ∙ simp (lt-ltb 0 t (omega arith), and-true)
 
--- A test that passes somewhere below n.
+-- A test that is true of some number below n.
 module _ (test : ℕ → Bool) where
   pub some-at : (n k : ℕ) → k < n → test k ≡ true → some n test ≡ true
   unfolding some
   some-at zero k h e = absurd (not-suc-le-zero h)
   some-at (suc n) k h e = go (decLt k n) (λ l. some-at n k l e)
     where
-      or-right : (a b : Bool) → b ≡ true → (a || b) ≡ true
-      or-right true b h = refl
-      or-right false b h = h
-
       go : Dec (k < n) → (k < n → some n test ≡ true) → (test n || some n test) ≡ true
-      go (yes l) f = or-right (test n) (some n test) (f l)
+      go (yes l) f = simp (f l, or-true)
       go (no m) f = let q : k ≡ n = omega arith in simp (ap test (sym q) ∙ e)
 
-  -- one more test that fails
+  -- one more number of which it is false
   pub some-more : (n : ℕ) → some n test ≡ false → test n ≡ false → some (n + 1) test ≡ false
   unfolding some
   some-more n h e = rw (add-one n) (simp (e, h))
@@ -95,7 +86,7 @@ module _ (numbers : List ℕ) where
   abbrev pub meets : ℕ → ℕ → Bool
   meets j k = share (start numbers j) (size numbers j) (start numbers k) (size numbers k)
 
-  -- a test of the entries at two indices
+  -- a test of the entries read from the list
   pub meets-entries : (r : Bool) (e f : FdtReserveEntry) (j k : ℕ) → r ≡ share (e .address) (e .size) (f .address) (f .size) → e ≡ entryAt numbers j → f ≡ entryAt numbers k → r ≡ meets j k
   unfolding entryAt
   meets-entries r e f j k h p q =
@@ -113,7 +104,7 @@ module _ (numbers : List ℕ) where
           let z : size numbers k ≡ 0 = List·getD-eq-default numbers 0 (omega arith) in
           absurd (omega (arith, h .from, h .below, z))
 
-  -- an address in both
+  -- reservations that share an address meet
   pub met : {j k x : ℕ} → LiesIn numbers j x → LiesIn numbers k x → meets j k ≡ true
   met {j} {k} {x} p q =
       share-at (start numbers j) (size numbers j) (start numbers k) (size numbers k) x (p .from) (p .below) (q .from) (q .below)
@@ -131,7 +122,7 @@ module _ (numbers : List ℕ) where
         inOther = record { from = omega arith; below = s .1 };
       }
 
-  -- an overlap is two reservations that share an address, the one before the other
+  -- an overlap is two reservations that share an address, one before the other in the list
   pub ordered : Overlap numbers → (j : ℕ) × (k : ℕ) × (j < k) × (k < length numbers / 2) × (meets j k ≡ true)
   ordered o = go (decLt (o .one) (o .other))
     where
@@ -139,7 +130,7 @@ module _ (numbers : List ℕ) where
       go (yes l) = (o .one, o .other, l, within (o .inOther), met (o .inOne) (o .inOther))
       go (no n) = (o .other, o .one, lt-of-le-ne (omega arith) (λ e. o .different (sym e)), within (o .inOne), met (o .inOther) (o .inOne))
 
-  -- the reservation at k shares no address with those after it, of those below m
+  -- reservation k shares no address with any after it and before m
   abbrev pub Clear : ℕ → ℕ → Type 0
   Clear k m = (l : ℕ) → k < l → l < m → meets k l ≡ false
 
@@ -149,7 +140,7 @@ module _ (numbers : List ℕ) where
   pub clear-more : (k m : ℕ) → Clear k m → meets k m ≡ false → Clear k (m + 1)
   clear-more k m h e l p q = below-more (λ (n : ℕ). k < n → meets k n ≡ false) m (λ n u v. h n v u) (λ v. e) l q p
 
-  -- where every reservation is clear of those after it, none overlap
+  -- if every reservation is clear of those after it, none overlap
   pub apart : ((k : ℕ) → k < length numbers / 2 → Clear k (length numbers / 2)) → Overlap numbers → ⊥
   apart h o =
       let w = ordered o in

@@ -10,17 +10,17 @@ use Rattle.fdt_reserve.specs.declared.Reserved.the-variants.{Entry, Inva
 unfoldable pub invalid : ℕ → ℕ → Bool
 invalid address size = eqb size 0 || leb (2 ^ 64) (address + size)
 
--- what `FdtReserveEntry::new` answers
+-- what `FdtReserveEntry::new` returns
 unfoldable pub reserved : ℕ → ℕ → Reserved
 reserved address size =
     cond (invalid address size) InvalidMemoryReservation (Entry (record { address = address; size = size }))
 
--- document 01's number of an answer
+-- document 01's number of a result
 unfoldable pub numberOf : Reserved → ℕ
 numberOf (Entry e) = 0
 numberOf InvalidMemoryReservation = 8
 
--- the values that an answer carries
+-- the values of a result
 unfoldable pub valuesOf : Reserved → List ℕ
 valuesOf (Entry e) = e .address ∷ e .size ∷ []
 valuesOf InvalidMemoryReservation = []

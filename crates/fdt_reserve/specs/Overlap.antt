@@ -1,5 +1,5 @@
 -- Refusal 9: "some address lies in two reservations" (document 01, "When the desk says no").
--- Reservations are a list of numbers, address and size in turn; what would stand past its end counts as 0.
+-- Reservations are a list of numbers, address and size in turn; a number past its end counts as 0.
 use mathlib.Core.Path.{_≡_}
 use mathlib.Core.Bool.{Bool, true, false, _&&_, _||_}
 use mathlib.Core.List.{List}
@@ -8,19 +8,19 @@ use lib.Dec.{ltb}
 use lib.ListN.{length, getD}
 use Rattle.fdt_reserve.specs.declared.FdtReserveEntry.{FdtReserveEntry}
 
--- the address at which the reservation at an index starts
+-- the address at which reservation k starts
 unfoldable pub start : List ℕ → ℕ → ℕ
 start numbers k = getD numbers (2 * k) 0
 
--- the size of the reservation at an index
+-- the size of reservation k
 unfoldable pub size : List ℕ → ℕ → ℕ
 size numbers k = getD numbers (2 * k + 1) 0
 
--- the reservation at an index
+-- reservation k
 unfoldable pub entryAt : List ℕ → ℕ → FdtReserveEntry
 entryAt numbers k = record { address = start numbers k; size = size numbers k }
 
--- an address lies in the reservation at an index, so in none of size 0
+-- an address lies in reservation k; none lies in one of size 0
 pub record LiesIn (numbers : List ℕ) (k address : ℕ) : Type 0 where
   pub from : start numbers k ≤ address
   pub below : address < start numbers k + size numbers k
@@ -34,12 +34,12 @@ pub record Overlap (numbers : List ℕ) : Type 0 where
   pub inOne : LiesIn numbers one address
   pub inOther : LiesIn numbers other address
 
--- a test passes at some number below n
+-- the test is true of some number below n
 unfoldable pub some : ℕ → (ℕ → Bool) → Bool
 some zero test = false
 some (suc n) test = test n || some n test
 
--- two ranges share an address: the greater of their starts lies in both
+-- two ranges, each given by its start and size, share an address: the greater start lies in both
 unfoldable pub share : ℕ → ℕ → ℕ → ℕ → Bool
 share a s b t = ltb (max a b) (a + s) && ltb (max a b) (b + t)
 

@@ -1,4 +1,4 @@
-// Reserved memory: one reservation, and whether two of them share an address.
+// Memory reservations: making one, and whether any two overlap.
 ghost use mathlib.Core.Path.{_≡_};
 ghost use mathlib.Core.Bool.{true};
 ghost use mathlib.Core.Logic.{_↔_};
@@ -7,20 +7,20 @@ ghost use lib.ListN.{length};
 ghost use Rattle.fdt_reserve.specs.Entry.{reserved};
 ghost use Rattle.fdt_reserve.specs.Overlap.{Overlap, entryAt, share};
 
-// A region of physical memory that the system is to leave alone.
+// A region of physical memory that the operating system must not use.
 pub struct FdtReserveEntry {
     pub address: u64,
     pub size: u64,
 }
 
-// What making a reservation answers.
+// The result of `FdtReserveEntry::new`.
 pub enum Reserved {
     Entry(FdtReserveEntry),
     InvalidMemoryReservation,
 }
 
 impl FdtReserveEntry {
-    // A reservation of `size` bytes from `address` on.
+    // A reservation of `size` bytes from `address` on, or refusal 8.
     pub fn new(address: u64, size: u64) -> Reserved
         ensures { λ r. ⌜ r ≡ reserved address size ⌝ }
     {
@@ -34,7 +34,7 @@ impl FdtReserveEntry {
     }
 }
 
-// Whether two regions share an address: the greater of the two starts lies in both.
+// Whether two regions share an address. If they do, they share the greater of their starts.
 fn share_address(one: FdtReserveEntry, other: FdtReserveEntry) -> bool
     ensures { λ r. ⌜ r ≡ share (one .address) (one .size) (other .address) (other .size) ⌝ }
 {
@@ -50,7 +50,7 @@ fn share_address(one: FdtReserveEntry, other: FdtReserveEntry) -> bool
     one.address - other.address < other.size
 }
 
-// The reservation at an index of a list that has address and size in turn.
+// Reservation `k` of a list of addresses and sizes in turn.
 pub fn entry_at(mem_reservations: &[u64], k: usize) -> FdtReserveEntry
     requires { ⌜ k < length (now «mem_reservations») / 2 ⌝ }
     ensures { λ r. ⌜ r ≡ entryAt (now («mem_reservations» .entry)) k ⌝ }
@@ -61,7 +61,7 @@ pub fn entry_at(mem_reservations: &[u64], k: usize) -> FdtReserveEntry
     }
 }
 
-// Whether some address lies in two of the reservations, given as address and size in turn.
+// Whether some address lies in two of the reservations, which are a list of addresses and sizes in turn.
 pub fn check_overlapping(mem_reservations: &[u64]) -> bool
     ensures { λ r. ⌜ (r ≡ true) ↔ Overlap (now («mem_reservations» .entry)) ⌝ }
 {

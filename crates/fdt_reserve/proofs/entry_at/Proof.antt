@@ -1,4 +1,4 @@
--- `entry_at` meets its contract: both numbers stand in the list.
+-- `entry_at` meets its contract: both numbers are read from the list.
 use mathlib.Core.Path.{refl}
 use Rattle.fdt_reserve.specs.Overlap.{start, size, entryAt}
 use borrow.Author.Needs.{needs}

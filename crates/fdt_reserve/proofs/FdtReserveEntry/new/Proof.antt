@@ -1,4 +1,4 @@
--- `FdtReserveEntry::new` meets its contract: its tests are those of the definition, with no sum that could wrap.
+-- `FdtReserveEntry::new` meets its contract: its tests are those of the definition, without a sum that could wrap.
 use mathlib.Core.Path.{_≡_}
 use mathlib.Core.Bool.{true, false}
 use borrow.Author.Tests.{eq-eqb, ne-eqb, le-leb, lt-leb}
