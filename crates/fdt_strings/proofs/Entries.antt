@@ -1,23 +1,20 @@
--- Laws of entries: how strings fall into them, how they are put together again, and where a name stands among them.
+-- Laws of the strings area: strings fall into entries, entries make strings again, and the offset at which a name is found.
 use mathlib.Core.Path.{_≡_, refl, sym, ap, _∙_}
-use mathlib.Core.Bool.{Bool, true, false, cond, _&&_, false≢true, true≢false}
+use mathlib.Core.Bool.{Bool, true, false, cond, and-eq-true-iff, false≢true, true≢false}
 use mathlib.Core.List.{List, [], _∷_, _++_, append-assoc, append-nil, List·Memᴰ, List·Memᴰ·head, List·Memᴰ·tail}
+use mathlib.Core.Logic.{_↔_}
 use Prim.Native.Nat.{ℕ, suc, _+_, _-_, _≤_, _<_}
 use native.Mathlib.Omega.{arith}
 use borrow.Author.Tests.{eq-eqb, ne-eqb, eqb-true, eqb-false}
 use lib.ListN.{length, take, drop, length-append, length-drop, drop-of-length-le}
-use lib.Seq.{append-snoc, drop-at, drop-drop, take-length, length-take-le}
+use lib.Seq.{append-snoc, drop-drop, take-length, length-take-le}
 use lib.Dec.{eqb}
 use Rattle.bytes.specs.Bytes.{slice, indexOf, indexAfter}
-use Rattle.fdt_strings.specs.Entries.{entry, withByte, entries, same, firstFrom, findString, joined, NoZero, no-byte, next-byte}
+use Rattle.fdt_strings.specs.Entries.{foundValues, entry, withByte, entries, same, firstFrom, findString, joined, NoZero, no-byte, next-byte}
 use Rattle.fdt_strings.specs.declared.Found.{Found}
 use Rattle.fdt_strings.specs.declared.Found.the-variants.{At, Nothing}
 
 -- ---- the same bytes
-
-both : (a b : Bool) → (a && b) ≡ true → (a ≡ true) × (b ≡ true)
-both true b h = (refl, h)
-both false b h = absurd (false≢true h)
 
 pub same-eq : (s t : List ℕ) → same s t ≡ true → s ≡ t
 unfolding same
@@ -25,7 +22,7 @@ same-eq [] [] h = refl
 same-eq [] (c ∷ t) h = absurd (false≢true h)
 same-eq (b ∷ s) [] h = absurd (false≢true h)
 same-eq (b ∷ s) (c ∷ t) h =
-    let p = both (eqb b c) (same s t) h in
+    let p = and-eq-true-iff (eqb b c) (same s t) .0 h in
     let e = eqb-true b c (p .0) in
     let f = same-eq s t (p .1) in
     cc
@@ -62,7 +59,7 @@ unfolding entries withByte
 entries-front rest no-byte = refl
 entries-front rest (next-byte {b = b} h n) = simp (ne-eqb b 0 (omega arith), entries-front rest n)
 
--- what stands up to the first 0 is an entry
+-- the bytes before the first 0 are an entry
 pub entries-cut : (s : List ℕ) → indexOf 0 s < length s → entries s ≡ take (indexOf 0 s) s ∷ entries (drop (suc (indexOf 0 s)) s)
 unfolding entries withByte indexOf indexAfter
 entries-cut [] h = absurd (omega arith)
@@ -74,7 +71,7 @@ entries-cut (b ∷ s) h = go (eqb b 0) (indexOf 0 s) (λ k. entries-cut s k) h
     go true n more h = refl
     go false n more h = ap (withByte b) (more (omega arith))
 
--- where no byte is 0 there is no entry
+-- if no byte is 0 there is no entry
 pub entries-none : (s : List ℕ) → indexOf 0 s ≡ length s → entries s ≡ []
 unfolding entries withByte indexOf indexAfter
 entries-none [] h = refl
@@ -94,7 +91,7 @@ entries-plain (b ∷ s) = go (eqb b 0) refl (entries s) (entries-plain s)
     go false e [] p = no-entry
     go false e (x ∷ es) (next-entry n p) = let h : 0 < b = omega (arith, eqb-false b 0 e) in next-entry (next-byte h n) p
 
--- ---- entries are put together again
+-- ---- entries make strings again
 
 pub joined-append : (es fs : List (List ℕ)) → joined (es ++ fs) ≡ joined es ++ joined fs
 unfolding joined
@@ -107,7 +104,7 @@ entries-joined no-entry = refl
 entries-joined (next-entry {e = e} {es = es} n p) =
     ap entries (append-snoc e 0 (joined es)) ∙ entries-front (joined es) n ∙ ap (λ (l : List (List ℕ)). e ∷ l) (entries-joined p)
 
--- strings are their entries put together, and then what stands after the last 0
+-- strings are their entries and then the bytes after the last 0
 pub joined-entries : (s : List ℕ) → (t : List ℕ) × (s ≡ joined (entries s) ++ t)
 unfolding entries withByte joined entry
 joined-entries [] = ([], refl)
@@ -134,7 +131,7 @@ unfolding joined
 whole-joined [] = empty
 whole-joined (e ∷ es) = whole-append (ended e) (whole-joined es)
 
--- what ends in 0 has an entry
+-- strings that end in 0 have an entry
 some-entry : (s : List ℕ) → (e : List ℕ) × (es : List (List ℕ)) × (entries (entry s) ≡ e ∷ es)
 unfolding entries withByte entry
 some-entry [] = ([], [], refl)
@@ -168,11 +165,6 @@ joined-whole (ended (b ∷ s)) = go (eqb b 0) refl (some-entry s .2) (joined-who
     go true f p q = let n = eqb-true b 0 f in cc
     go false f p q = rw p (ap (λ (l : List ℕ). b ∷ l) (rw p at q))
 
--- a name that is stored after whole strings is one entry more
-pub entries-stored : {s name : List ℕ} → Whole s → NoZero name → entries (s ++ entry name) ≡ entries s ++ (name ∷ [])
-unfolding entry entries
-entries-stored {s} w n = entries-append _ w ∙ ap (λ (l : List (List ℕ)). entries s ++ l) (entries-front [] n)
-
 -- ---- the first entry from a place on
 
 -- past the end there is none
@@ -180,7 +172,7 @@ pub first-end : (s name : List ℕ) (from : ℕ) → length s ≤ from → first
 unfolding entries firstFrom
 first-end s name from h = ap (λ (l : List ℕ). firstFrom from (entries l) name) (drop-of-length-le s h)
 
--- By the 0 that ends it: there is none, it is the name, or it is not.
+-- `to` is the place of the next 0: there is none, the entry before it is the name, or it is not.
 module _ (s name : List ℕ) (from to : ℕ) (e : to ≡ from + indexOf 0 (slice from (length s) s)) (h : from ≤ length s) where
   index : indexOf 0 (drop from s) ≡ to - from
   unfolding slice
@@ -209,9 +201,9 @@ module _ (s name : List ℕ) (from to : ℕ) (e : to ≡ from + indexOf 0 (slice
         ap (λ (l : List (List ℕ)). firstFrom from l name) front
         ∙ simp (ne-same (take (to - from) (drop from s)) name p) (ap (λ (m : ℕ). firstFrom m (entries (drop (to + 1) s)) name) n)
 
--- ---- where a name stands
+-- ---- where a name is found
 
--- where nothing is found, the first entry is not the name and nothing is found among the others
+-- if nothing is found, the first entry is not the name and nothing is found among the others
 missed : (k : ℕ) {x : Found} (z : Bool) → cond z (At k) x ≡ Nothing → (z ≡ false) × (x ≡ Nothing)
 missed k true h = let n : _≡_ {A = ℕ} 0 1 = cc in absurd (omega arith)
 missed k false h = (refl, h)
@@ -225,7 +217,7 @@ first-after name k (e ∷ es) fs h =
     let n : k + (length e + 1) + length (joined es) ≡ k + length (entry e ++ joined es) = simp length-append (omega (arith, length-entry e)) in
     simp (m .0) (first-after name (k + (length e + 1)) es fs (m .1) ∙ ap (λ (j : ℕ). firstFrom j fs name) n)
 
--- the name is one of the entries, the first that is, at i where the first of them stands at k
+-- the name is found at i among entries of which the first is at k
 record Among (k : ℕ) (es : List (List ℕ)) (name : List ℕ) (i : ℕ) : Type 0 where
   before : List (List ℕ)
   behind : List (List ℕ)
@@ -258,7 +250,7 @@ plain-at : (es fs : List (List ℕ)) (e : List ℕ) → Plain (es ++ e ∷ fs) �
 plain-at [] fs e (next-entry n p) = (no-entry, n)
 plain-at (x ∷ es) fs e (next-entry n p) = let q = plain-at es fs e p in (next-entry n (q .0), q .1)
 
--- the name stands in the strings at i: a whole entry, and the first that is the name
+-- the name is in the strings at i: as a whole entry, and the first that is the name
 pub record Stands (s name : List ℕ) (i : ℕ) : Type 0 where
   pub before : List ℕ
   pub behind : List ℕ
@@ -268,7 +260,7 @@ pub record Stands (s name : List ℕ) (i : ℕ) : Type 0 where
   pub plain : NoZero name
   pub first : findString before name ≡ Nothing
 
--- where a name is found it stands
+-- a name that is found is there
 pub found-stands : (s name : List ℕ) (i : ℕ) → findString s name ≡ At i → Stands s name i
 unfolding findString joined entry
 found-stands s name i h =
@@ -285,7 +277,7 @@ found-stands s name i h =
       first = ap (λ (l : List (List ℕ)). firstFrom 0 l name) (entries-joined (p .0)) ∙ a .first;
     }
 
--- where a name stands it is found
+-- a name that is there is found
 pub stands-found : (s name : List ℕ) (i : ℕ) → Stands s name i → findString s name ≡ At i
 unfolding findString firstFrom
 stands-found s name i w =
@@ -296,13 +288,9 @@ stands-found s name i w =
     ap (λ (l : List (List ℕ)). firstFrom 0 l name) e ∙ first-after name 0 (entries (w .before)) (name ∷ entries (w .behind)) (w .first)
     ∙ simp (eq-same name name refl) (ap At n)
 
--- a name that stands in the strings fits in them
+-- a name that is in the strings fits in them
 pub stands-fits : {s name : List ℕ} {i : ℕ} → Stands s name i → i + length (entry name) ≤ length s
 stands-fits {name = name} w = omega (arith, length-entry name, simp length-append at (ap length (w .split)))
-
--- what stands from there on
-pub stands-drop : {s name : List ℕ} {i : ℕ} (w : Stands s name i) → drop i s ≡ name ++ 0 ∷ w .behind
-stands-drop {s} {name} {i} w = ap (drop i) (w .split) ∙ drop-at (w .before) (name ++ 0 ∷ w .behind) i (w .place)
 
 -- a name that is found stays where it is, whatever follows
 pub found-append : (s t name : List ℕ) (i : ℕ) → findString s name ≡ At i → findString (s ++ t) name ≡ At i
@@ -324,7 +312,7 @@ unfolding entry
 found-stored {s} {name} w n h =
     stands-found (s ++ entry name) name (length s) (record { before = s; behind = []; split = refl; place = refl; starts = w; plain = n; first = h })
 
--- a name that is not found is no entry
+-- a name that is not found is not an entry
 pub not-found : (s name : List ℕ) → findString s name ≡ Nothing → List·Memᴰ name (entries s) → ⊥
 unfolding findString firstFrom
 not-found s name h m = go 0 m h
@@ -332,3 +320,9 @@ not-found s name h m = go 0 m h
     go : (k : ℕ) {es : List (List ℕ)} → List·Memᴰ name es → firstFrom k es name ≡ Nothing → ⊥
     go k (List·Memᴰ·head {x = e} q) h = true≢false (sym (eq-same e name (sym q)) ∙ missed k (same e name) h .0)
     go k (List·Memᴰ·tail {x = e} m) h = go (k + (length e + 1)) m (missed k (same e name) h .1)
+
+-- a result has an offset as its value exactly when the name is found there
+pub found-values : (f : Found) (i : ℕ) → (foundValues f ≡ i ∷ []) ↔ (f ≡ At i)
+unfolding foundValues
+found-values (At j) i = (λ h. cc, λ h. cc)
+found-values Nothing i = (λ h. cc, λ h. cc)

@@ -1,4 +1,4 @@
--- Laws of a name's place: it is known, it is new and fits, or there is no room; and what storing it there leaves.
+-- Laws of interning: a name is known, it is new and fits, or there is no room; and the strings after it is stored.
 use mathlib.Core.Path.{_≡_, refl, ap, _∙_}
 use mathlib.Core.Bool.{Bool, true, false, cond}
 use mathlib.Core.List.{List, [], _∷_}
@@ -31,7 +31,7 @@ module _ (used name : List ℕ) (room : ℕ) where
     unfolding interned orElse place
     interned-full k = simp (h, lt-leb (length used + length (entry name)) room (omega (arith, length-entry name)))
 
--- a name that is told as new is not found, and it fits with its 0 at the end of the used strings
+-- what `New` says: the name is not found, and it fits with its 0 at the end of the used strings
 pub record Placed (used : List ℕ) (room : ℕ) (name : List ℕ) (offset : ℕ) : Type 0 where
   pub absent : findString used name ≡ Nothing
   pub place : length used ≡ offset
@@ -60,7 +60,7 @@ module _ (used name : List ℕ) (room offset : ℕ) where
           record { absent = e; place = p; fits = omega (arith, leb-true (length used + length (entry name)) room k) }
       go Nothing e false k h = let n : _≡_ {A = ℕ} 0 1 = cc in absurd (omega arith)
 
--- the name over the front of the part that was lent, and then its 0
+-- the strings after the name was written into the part that was lent, and then its 0
 pub stored :
     (offset : ℕ) (name strings part : List ℕ) → offset + length (entry name) ≤ length strings →
     part ≡ over name (take (length strings - offset) (drop offset strings)) →

@@ -1,4 +1,4 @@
--- Asking for a name's place: refusal 15, "a new name and its 0 don't fit" (document 01, "When the desk says no").
+-- The offset of a name, old or new: refusal 15, "a new name and its 0 don't fit" (document 01, "When the desk says no").
 use Prim.Native.Nat.{ℕ, _+_}
 use mathlib.Core.Bool.{cond}
 use mathlib.Core.List.{List, [], _∷_}
@@ -10,26 +10,26 @@ use Rattle.fdt_strings.specs.declared.Interned.{Interned}
 use Rattle.fdt_strings.specs.declared.Interned.the-variants.{Known, New, StringRoom}
 use Rattle.fdt_strings.specs.Entries.{entry, findString}
 
--- a place for a name that is not found: the end of the used strings, where the name and its 0 fit within the room
+-- the offset for a new name: the end of the used strings, if the name and its 0 fit within the room
 unfoldable pub place : List ℕ → ℕ → List ℕ → Interned
 place used room name = cond (leb (length used + length (entry name)) room) (New (length used)) StringRoom
 
--- what was found is known; otherwise the other answer
+-- a name that was found is known; otherwise the other result
 unfoldable pub orElse : Found → Interned → Interned
 orElse (At offset) other = Known offset
 orElse Nothing other = other
 
--- what `intern_string` answers for a name, with these strings used of so much room
+-- what `intern_string` returns, with these strings used of so much room
 unfoldable pub interned : List ℕ → ℕ → List ℕ → Interned
 interned used room name = orElse (findString used name) (place used room name)
 
--- document 01's number of an answer
+-- document 01's number of a result
 unfoldable pub numberOf : Interned → ℕ
 numberOf (Known offset) = 0
 numberOf (New offset) = 0
 numberOf StringRoom = 15
 
--- the values that an answer carries
+-- the values of a result
 unfoldable pub valuesOf : Interned → List ℕ
 valuesOf (Known offset) = offset ∷ []
 valuesOf (New offset) = offset ∷ []

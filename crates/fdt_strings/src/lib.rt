@@ -1,4 +1,4 @@
-// The strings area: where a name stands, where a new one goes, and storing it there.
+// The strings area: finding a name, finding room for a new one, and storing it.
 ghost use mathlib.Core.Path.{_≡_};
 ghost use Prim.Native.Nat.{_+_, _≤_};
 ghost use lib.ListN.{length};
@@ -6,20 +6,20 @@ ghost use Rattle.fdt_bytes.specs.Splice.{splice};
 ghost use Rattle.fdt_strings.specs.Entries.{entry, findString};
 ghost use Rattle.fdt_strings.specs.Interned.{interned};
 
-// Where a name stands.
+// The offset of a name in the strings, if it is there.
 pub enum Found {
     At(usize),
     Nothing,
 }
 
-// What asking for a name's place answers: it stands there already, it is new and fits there, or it does not fit.
+// The result of `intern_string`: the offset of a name that is there, the offset for a new name, or refusal 15.
 pub enum Interned {
     Known(usize),
     New(usize),
     StringRoom,
 }
 
-// The offset of the first whole entry of the strings that is the name.
+// Finds the first whole entry that is the name.
 pub fn find_string(strings: &[u8], name: &[u8]) -> Found
     ensures { λ r. ⌜ r ≡ findString (now (strings .entry)) (now (name .entry)) ⌝ }
 {
@@ -37,7 +37,7 @@ pub fn find_string(strings: &[u8], name: &[u8]) -> Found
     Found::Nothing
 }
 
-// The place of a name: where the used strings have it, or after them where it and its 0 fit within the room. It stores nothing.
+// Finds the name in the used strings, or a place for it after them if it and its 0 fit within `room`. Stores nothing.
 pub fn intern_string(used: &[u8], room: usize, name: &[u8]) -> Interned
     ensures { λ r. ⌜ r ≡ interned (now (used .entry)) room (now (name .entry)) ⌝ }
 {
@@ -55,7 +55,7 @@ pub fn intern_string(used: &[u8], room: usize, name: &[u8]) -> Interned
     }
 }
 
-// Stores a new name and its 0 at the offset that it was given.
+// Stores a new name and its 0 at its offset.
 pub fn store_string(strings: &mut [u8], offset: usize, name: &[u8])
     requires { ⌜ offset + length (entry (now name)) ≤ length (now strings) ⌝ }
     ensures { λ _. ⌜ now (strings .exit) ≡ splice offset (entry (now (name .entry))) (now (strings .entry)) ⌝ }

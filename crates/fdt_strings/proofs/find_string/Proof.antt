@@ -1,4 +1,4 @@
--- `find_string` meets its contract. The invariant: what the strings have is the first entry from `start` on that is the name. The measure is what is left.
+-- `find_string` meets its contract. The invariant: the entries from `start` on decide.
 use mathlib.Core.Path.{_≡_, refl, sym, _∙_}
 use mathlib.Core.Bool.{true≢false}
 use Prim.Native.Nat.{_≤_, _-_}
@@ -27,15 +27,15 @@ returns c =
 
 returns-2 : tie.Need-returns-2 Inv-loop μ-loop
 returns-2 c =
-    let l = c .before .before .before .before .before .before .loop in
-    let f = c .before .before .before .before .find in
-    sym (l .inv .1 ∙ first-here _ _ _ _ (f .ensures .0) (l .inv .0) (omega arith) (c .before .same .ensures .0 (c .if2 .taken)))
+    let ended = c .before .before .before .before in
+    let l = ended .before .before .loop in
+    sym (l .inv .1 ∙ first-here _ _ _ _ (ended .find .ensures .0) (l .inv .0) (omega arith) (c .before .same .ensures .0 (c .if2 .taken)))
 
 loop-again : tie.Need-loop-again Inv-loop μ-loop
 loop-again c =
-    let l = c .before .before .before .before .before .before .loop in
-    let f = c .before .before .before .before .find in
-    (omega arith, l .inv .1 ∙ first-later _ _ _ _ (f .ensures .0) (l .inv .0) (omega arith) (λ p. true≢false (sym (c .before .same .ensures .1 p) ∙ c .if2 .left)))
+    let ended = c .before .before .before .before in
+    let l = ended .before .before .loop in
+    (omega arith, l .inv .1 ∙ first-later _ _ _ _ (ended .find .ensures .0) (l .inv .0) (omega arith) (λ p. true≢false (sym (c .before .same .ensures .1 p) ∙ c .if2 .left)))
 
 returns-3 : tie.Need-returns-3 Inv-loop μ-loop
 returns-3 c = sym (c .before .loop .inv .1 ∙ first-end _ _ _ (c .loop-test .left))

@@ -1,4 +1,4 @@
--- `store_string` meets its contract: the part that was lent comes back with the name over its front, and then its 0 is stored.
+-- `store_string` meets its contract: the name is written into the part that is lent, and then its 0.
 use Prim.Native.Nat.{_-_}
 use native.Mathlib.Omega.{arith}
 use borrow.Author.Needs.{needs}
@@ -14,12 +14,14 @@ append-bytes-requires c κs = simp (length-take, length-drop) (omega (arith, len
 
 slice-write-strings : tie.Need-slice-write-strings
 slice-write-strings c =
-    let a = c .before .before .before .before .before .before .args in
-    let r = c .before .before .append-bytes in
-    omega (arith, length-entry (a .name .now), same-len-mid (a .offset) (length (a .strings .now) - a .offset) (a .strings .now) (r .last .0) (r .kept .0))
+    let named = c .before .before in
+    let a = named .before .before .before .before .args in
+    omega (arith, length-entry (a .name .now), same-len-mid (a .offset) (length (a .strings .now) - a .offset) (a .strings .now) (named .append-bytes .last .0) (named .append-bytes .kept .0))
 
 returns : tie.Need-returns
-returns c = stored _ _ _ _ (c .before .before .before .before .before .before .pre) (c .before .before .append-bytes .ensures)
+returns c =
+    let named = c .before .before in
+    stored _ _ _ _ (named .before .before .before .before .pre) (named .append-bytes .ensures)
 
 pub store-string-spec : {M : Type 1} → statement M
 store-string-spec =
