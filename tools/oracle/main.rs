@@ -1,4 +1,4 @@
-// Writes call lists for test_replay, and foretells what it must write of them: by a model of document 01, held to the crate.
+// Writes call lists for test_replay, and predicts its output for them, by a model of document 01 that is compared with the crate.
 mod beside;
 mod gen;
 mod list;
@@ -10,12 +10,12 @@ use std::fmt::Write as _;
 use std::io::{self, Read, Write};
 use std::process::exit;
 
-const USAGE: &str = "usage: oracle gen SEED [BYTES]   a random list of about so many bytes (1000000 where not told)
-       oracle gen names          every short name of a small alphabet, begun and as a property
-       oracle gen calls PART     every row of five calls from a small set, in parts from 0 on; nothing past the last
-       oracle gen corners        a fixed list of rooms met exactly and records broken in one place
-       oracle expect [COUNTS]    reads a list, writes what test_replay must write of it in quiet mode,
-                                 and to the file COUNTS how often each call had each answer";
+const USAGE: &str = "usage: oracle gen SEED [BYTES]   a random list of about BYTES bytes (default: 1000000)
+       oracle gen names          every short name over a small alphabet, as a node name and as a property name
+       oracle gen calls PART     every sequence of five calls from a small set, in parts from 0 on; nothing past the last
+       oracle gen corners        a fixed list of buffers that are just full and records with one fault
+       oracle expect [COUNTS]    reads a list, writes what test_replay must write for it in quiet mode,
+                                 and writes to the file COUNTS how often each call gave each answer";
 
 // The check value of bytes: 64-bit FNV-1a.
 fn check(bytes: impl Iterator<Item = u8>) -> u64 {
@@ -53,7 +53,7 @@ fn count(counts: &mut Counts, call: &str, answer: &str, cause: &str) {
 }
 
 // Runs a list on the model, with the crate beside it.
-fn foretell(text: &str, out: &mut String, counts: &mut Counts) -> Result<(), String> {
+fn predict(text: &str, out: &mut String, counts: &mut Counts) -> Result<(), String> {
     let (mut m, mut crate_side) = (model::Model::new(), beside::Beside::new());
     for (k, line) in text.lines().enumerate() {
         let at = |e: String| format!("line {}: {line:.200}: {e}", k + 1);
@@ -85,7 +85,7 @@ fn foretell(text: &str, out: &mut String, counts: &mut Counts) -> Result<(), Str
 fn expect(counts_file: Option<&String>) -> Result<(), String> {
     let (mut text, mut out, mut counts) = (String::new(), String::new(), Counts::new());
     io::stdin().read_to_string(&mut text).map_err(|e| format!("the list cannot be read: {e}"))?;
-    foretell(&text, &mut out, &mut counts)?;
+    predict(&text, &mut out, &mut counts)?;
     let told: String =
         counts.iter().map(|((call, answer, cause), n)| format!("{call}\t{answer}\t{cause}\t{n}\n")).collect();
     if let Some(file) = counts_file {
