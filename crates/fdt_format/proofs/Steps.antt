@@ -1,11 +1,11 @@
 -- What stands at a state: each token moves the place on inside the structure, and begins a node, is a property or ends a node.
 use mathlib.Core.Path.{_≡_, refl, subst}
-use mathlib.Core.Bool.{Bool, true, false, cond}
+use mathlib.Core.Bool.{Bool, true, false, _&&_, cond, false≢true}
 use mathlib.Core.List.{List}
 use Prim.Native.Nat.{ℕ, zero, suc, _+_, _-_, _≤_, _<_}
 use native.Mathlib.Omega.{arith}
 use native.Mathlib.Numerals.{add-one}
-use borrow.Author.Tests.{ltb-false, eqb-true, eqb-false, eq-eqb, ne-eqb}
+use borrow.Author.Tests.{ltb-false, leb-true, le-leb, eqb-true, eqb-false, eq-eqb, ne-eqb}
 use lib.Dec.{eqb, leb, ltb}
 use lib.ListN.{getD, take, drop}
 use Rattle.fdt_bytes.specs.BigEndian.{wordAt}
@@ -18,8 +18,8 @@ use Rattle.fdt_format.specs.declared.Step.the-variants as step
 use Rattle.fdt_format.specs.Description.{Property, _≔_}
 use Rattle.fdt_format.specs.Events.{begins, has, ends}
 use Rattle.fdt_format.specs.Reading.{nameAt, eventAt}
-use Rattle.fdt_format.specs.Step.{zeroFrom, beginAt, propertyAt, endAt, finalAt, stepAt}
-use Rattle.fdt_format.specs.Tokens.{beginToken, endToken, propertyToken, finalToken}
+use Rattle.fdt_format.specs.Step.{zeroFrom, wholeAt, sizeAt, beginAt, propertyAt, endAt, finalAt, stepAt}
+use Rattle.fdt_format.specs.Tokens.{beginToken, endToken, propertyToken, propertySize, finalToken}
 
 -- what holds of both answers of a test
 pub by-test : {A : Type 0} (P : A → Type 0) (t : Bool) (a b : A) → (t ≡ true → P a) → (t ≡ false → P b) → P (cond t a b)
@@ -54,6 +54,43 @@ unfolding zeroFrom
 zero-ge b zero at = omega arith
 zero-ge b (suc k) at =
     by-test (λ (n : ℕ). at ≤ n) (eqb (getD b at 0) 0) at (zeroFrom b k (suc at)) (λ _. omega arith) (λ _. omega (arith, zero-ge b k (suc at)))
+
+-- ---- a whole property at a place
+
+module _ (b : List ℕ) (end at : ℕ) where
+  pub record Whole : Type 0 where
+    pub words : 12 ≤ end - at
+    pub token : wordAt b at ≡ propertyToken
+    pub ends : propertySize (wordAt b (at + 4)) ≤ end - at
+
+  pub whole-is : wholeAt b end at ≡ true → Whole
+  unfolding wholeAt
+  whole-is e = go (leb 12 (end - at)) (eqb (wordAt b at) propertyToken) (leb (propertySize (wordAt b (at + 4))) (end - at)) refl refl refl e
+    where
+      go : (x y z : Bool) → leb 12 (end - at) ≡ x → eqb (wordAt b at) propertyToken ≡ y → leb (propertySize (wordAt b (at + 4))) (end - at) ≡ z → (x && y && z) ≡ true → Whole
+      go true true true p q r e = record { words = leb-true _ _ p; token = eqb-true _ _ q; ends = leb-true _ _ r }
+      go true true false p q r e = absurd (false≢true e)
+      go true false z p q r e = absurd (false≢true e)
+      go false y z p q r e = absurd (false≢true e)
+
+  pub is-whole : Whole → wholeAt b end at ≡ true
+  unfolding wholeAt
+  is-whole w = rw (le-leb _ _ (w .words), eq-eqb _ _ (w .token), le-leb _ _ (w .ends))
+
+  -- a size of 0 says that no whole property stands there, and any other that one does
+  by-size : (t : Bool) → wholeAt b end at ≡ t → {size : ℕ} → size ≡ cond t (propertySize (wordAt b (at + 4))) 0
+      → (size ≡ 0 → wholeAt b end at ≡ false) × ((size ≡ 0 → ⊥) → Whole × (size ≡ propertySize (wordAt b (at + 4))))
+  by-size true e s = (λ z. absurd (omega (arith, s)), λ n. (whole-is e, s))
+  by-size false e s = (λ z. e, λ n. absurd (n s))
+
+  module _ {size : ℕ} (s : size ≡ sizeAt b end at) where
+    pub size-none : size ≡ 0 → wholeAt b end at ≡ false
+    unfolding sizeAt
+    size-none = by-size (wholeAt b end at) refl s .0
+
+    pub size-whole : (size ≡ 0 → ⊥) → Whole × (size ≡ propertySize (wordAt b (at + 4)))
+    unfolding sizeAt
+    size-whole = by-size (wholeAt b end at) refl s .1
 
 -- ---- what an entry tells, by its token
 
@@ -112,16 +149,12 @@ module _ (b : List ℕ) (a : Areas) (s : State) where
   property-stepped : s .«takes_property» ≡ true → Stepped b a s (propertyAt b a s)
   unfolding propertyAt Stepped
   property-stepped r =
-      let left : ℕ = a .«structure_end» - s .at in
-      let size : ℕ = roundUp 4 (wordAt b (s .at + 4)) in
       let name : ℕ = a .strings + wordAt b (s .at + 8) in
-      by-test (Stepped b a s) (ltb left 12) _ _ (λ _. tt)
-      λ k. by-test (Stepped b a s) (ltb (left - 12) size) _ _ (λ _. tt)
-      λ h. by-test (Stepped b a s) (leb (a .«strings_end») (zeroFrom b (a .«strings_end» - name) name)) _ _ (λ _. tt)
-      λ _. (
-        record { on = omega arith; within = omega (arith, ltb-false left 12 k, ltb-false (left - 12) size h) },
-        adds _ (event-has b _ refl) refl r refl,
-      )
+      by-test (Stepped b a s) (wholeAt b (a .«structure_end») (s .at)) _ _
+      (λ h. let w = whole-is b (a .«structure_end») (s .at) h in
+      by-test (Stepped b a s) (leb (a .«strings_end») (zeroFrom b (a .«strings_end» - name) name)) _ _ (λ _. tt)
+      λ _. (record { on = omega arith; within = omega (arith, w .words, w .ends) }, adds _ (event-has b _ refl) refl r refl))
+      (λ _. tt)
 
   end-stepped : ltb (a .«structure_end» - s .at) 4 ≡ false → Stepped b a s (endAt s)
   unfolding endAt Stepped

@@ -21,7 +21,7 @@ use Rattle.fdt_format.specs.Step.{zeroFrom, beginAt, propertyAt, endAt, 
 use Rattle.fdt_format.specs.Reading.{eventAt}
 use Rattle.fdt_format.specs.Blob.{offsetOf, eventSize}
 use Rattle.fdt_format.proofs.Named.{zero-found, name-read}
-use Rattle.fdt_format.proofs.Steps.{event-begins, event-ends, event-has}
+use Rattle.fdt_format.proofs.Steps.{is-whole, event-begins, event-ends, event-has}
 use Rattle.fdt_format.proofs.Words.{BytesAt, bytes-left, bytes-right, bytes-take, bytes-fits, number-at, cell-at}
 
 -- ---- what each event makes of a state
@@ -136,12 +136,10 @@ module _ (b : List ℕ) (a : Areas) (names : List (List ℕ)) (s : State) where
       let k : a .strings + offset + length name < end = omega (arith, n .within) in
       let f : zeroFrom b (end - (a .strings + offset)) (a .strings + offset) ≡ a .strings + offset + length name = zero-found end (n .plain) (n .held) k in
       let t₁ : 4 ≤ a .«structure_end» - s .at = omega arith in
-      let t₂ : 12 ≤ a .«structure_end» - s .at = omega arith in
-      let t₃ : roundUp 4 (length value) ≤ a .«structure_end» - s .at - 12 = omega arith in
+      let whole = is-whole b (a .«structure_end») (s .at) (record { words = omega arith; token = w; ends = rw w₁ (omega arith) }) in
       record {
         step =
-            rw (le-ltb _ _ t₁, w, room, w₁, w₂, f, le-ltb _ _ t₂, le-ltb _ _ t₃, lt-leb _ _ k)
-            (same-place (let r : s .at + 12 + roundUp 4 (length value) ≡ s .at + (12 + roundUp 4 (length value)) = omega arith in r));
+            rw (le-ltb _ _ t₁, w, room, whole, w₁, w₂, f, lt-leb _ _ k);
         told = event-has b (entryOf a names s (has (name ≔ value))) refl ∙ rw (name-read (n .plain) (n .held), bytes-take v (length value) refl);
       }
 

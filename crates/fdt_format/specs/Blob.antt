@@ -9,7 +9,7 @@ use Rattle.fdt_strings.specs.Entries.{firstFrom, joined, NoZero}
 use Rattle.fdt_format.specs.Description.{Property, _≔_, Reservation, reserved, Description}
 use Rattle.fdt_format.specs.Events.{Event, begins, has, ends, events}
 use Rattle.fdt_header.specs.Header.{structureStart, reservationBytes, headerBytes}
-use Rattle.fdt_format.specs.Tokens.{beginBytes, propertyBytes, endBytes, finalBytes}
+use Rattle.fdt_format.specs.Tokens.{beginBytes, propertyBytes, propertySize, endBytes, finalBytes}
 
 -- names as they are where one was found among them, otherwise with it at the end
 unfoldable pub orAtEnd : Found → List (List ℕ) → List ℕ → List (List ℕ)
@@ -54,7 +54,7 @@ structureBytes names (e ∷ es) = eventBytes names e ++ structureBytes names es
 -- how many bytes an event takes
 unfoldable pub eventSize : Event → ℕ
 eventSize (begins name) = 4 + roundUp 4 (length name + 1)
-eventSize (has (name ≔ value)) = 12 + roundUp 4 (length value)
+eventSize (has (name ≔ value)) = propertySize (length value)
 eventSize ends = 4
 
 -- how many bytes events take

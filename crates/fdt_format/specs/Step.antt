@@ -1,5 +1,5 @@
 -- Reading one token of the structure (document 01, "How a blob is read"; Devicetree Specification v0.4, section 5.4).
-use mathlib.Core.Bool.{true, false, cond}
+use mathlib.Core.Bool.{Bool, true, false, _&&_, cond}
 use mathlib.Core.List.{List}
 use Prim.Native.Nat.{ℕ, zero, suc, _+_, _-_}
 use lib.Dec.{eqb, leb, ltb}
@@ -12,7 +12,7 @@ use Rattle.fdt_format.specs.declared.State.{State}
 use Rattle.fdt_format.specs.declared.Step.{Step}
 use Rattle.fdt_format.specs.declared.Step.the-variants as step
 use Rattle.fdt_format.specs.declared.Unreadable.the-variants.{Structure, NameOffset}
-use Rattle.fdt_format.specs.Tokens.{beginToken, endToken, propertyToken, finalToken}
+use Rattle.fdt_format.specs.Tokens.{beginToken, endToken, propertyToken, propertySize, finalToken}
 
 -- the first place from `at` on that holds a 0, or the place k further
 unfoldable pub zeroFrom : List ℕ → ℕ → ℕ → ℕ
@@ -29,17 +29,28 @@ beginAt b a s =
     (record { token = beginToken; place = s .at; name = s .at + 4; size = 0 })
     (record { at = roundUp 4 (end + 1); depth = s .depth + 1; «takes_property» = true })))
 
--- word 3, value length, name offset, value, padding: all inside the structure; the offset meets a 0 inside the strings
+-- a whole property stands at a place: word 3, value length, name offset, value and padding, which end at `end` or before
+unfoldable pub wholeAt : List ℕ → ℕ → ℕ → Bool
+wholeAt b end at =
+    leb 12 (end - at)
+    && eqb (wordAt b at) propertyToken
+    && leb (propertySize (wordAt b (at + 4))) (end - at)
+
+-- how many bytes it takes; 0 where no whole property stands
+unfoldable pub sizeAt : List ℕ → ℕ → ℕ → ℕ
+sizeAt b end at = cond (wholeAt b end at) (propertySize (wordAt b (at + 4))) 0
+
+-- word 3: the property is whole inside the structure, and its name offset meets a 0 inside the strings
 unfoldable pub propertyAt : List ℕ → Areas → State → Step
 propertyAt b a s =
     let size : ℕ = wordAt b (s .at + 4) in
     let name : ℕ = a .strings + wordAt b (s .at + 8) in
-    cond (ltb (a .«structure_end» - s .at) 12) (step.Bad Structure)
-    (cond (ltb (a .«structure_end» - s .at - 12) (roundUp 4 size)) (step.Bad Structure)
+    cond (wholeAt b (a .«structure_end») (s .at))
     (cond (leb (a .«strings_end») (zeroFrom b (a .«strings_end» - name) name)) (step.Bad NameOffset)
     (step.Entry
     (record { token = propertyToken; place = s .at; name = name; size = size })
-    (record { at = s .at + 12 + roundUp 4 size; depth = s .depth; «takes_property» = true }))))
+    (record { at = s .at + propertySize size; depth = s .depth; «takes_property» = true })))
+    (step.Bad Structure)
 
 -- word 2: a node is open
 unfoldable pub endAt : State → Step

@@ -1,9 +1,9 @@
 -- The structure's words and bytes (document 01, "The bytes"; Devicetree Specification v0.4, section 5.4).
-use Prim.Native.Nat.{ℕ}
+use Prim.Native.Nat.{ℕ, _+_}
 use mathlib.Core.List.{List, [], _∷_, _++_}
 use lib.ListN.{length}
 use Rattle.fdt_bytes.specs.BigEndian.{bigEndian, cellBytes}
-use Rattle.fdt_bytes.specs.Padding.{padded}
+use Rattle.fdt_bytes.specs.Padding.{padded, roundUp}
 use Rattle.fdt_strings.specs.Entries.{entry}
 
 -- the word that begins a node
@@ -29,6 +29,10 @@ beginBytes name = bigEndian 4 beginToken ++ padded 4 (entry name)
 -- Property: word 3, value length, name offset, value, zeros
 unfoldable pub propertyBytes : ℕ → List ℕ → List ℕ
 propertyBytes offset value = cellBytes 4 (propertyToken ∷ length value ∷ offset ∷ []) ++ padded 4 value
+
+-- how many bytes a property takes, by the size of its value
+abbrev pub propertySize : ℕ → ℕ
+propertySize size = 12 + roundUp 4 size
 
 -- End: word 2
 unfoldable pub endBytes : List ℕ

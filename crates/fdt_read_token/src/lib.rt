@@ -13,7 +13,7 @@ use fdt_format::Unreadable;
 ghost use mathlib.Core.Path.{_≡_};
 ghost use Prim.Native.Nat.{_+_, _-_, _≤_, _<_, _^_};
 ghost use lib.ListN.{length};
-ghost use Rattle.fdt_format.specs.Step.{zeroFrom, beginAt, propertyAt, endAt, finalAt, stepAt};
+ghost use Rattle.fdt_format.specs.Step.{zeroFrom, sizeAt, beginAt, propertyAt, endAt, finalAt, stepAt};
 ghost use Rattle.fdt_read_token.specs.Inside.{Inside, Fits};
 
 // The first place from `at` on and before `end` that holds a 0; otherwise the later of the two.
@@ -57,34 +57,51 @@ fn begin_at(blob: &[u8], a: Areas, s: State) -> Step
     )
 }
 
-// A property at a state: its words, value and padding end inside the structure, and its name meets a 0 inside the strings.
+// How many bytes the whole property at a place takes, if it ends at `end` or before; 0 where no whole property stands.
+pub fn property_size(blob: &[u8], at: usize, end: usize) -> usize
+    requires { ⌜ (at ≤ end) × (end ≤ length (now blob)) ⌝ }
+    ensures { λ r. ⌜ r ≡ sizeAt (now (blob .entry)) end at ⌝ }
+{
+    let left = end - at;
+    if left < 12 {
+        return 0;
+    }
+    if read_u32(blob, at) != FDT_PROP {
+        return 0;
+    }
+    let size = 12 + round_up(read_u32(blob, at + 4) as usize, 4);
+    if left < size {
+        return 0;
+    }
+    size
+}
+
+// A property at a state: it is whole inside the structure, and its name offset meets a 0 inside the strings.
 fn property_at(blob: &[u8], a: Areas, s: State) -> Step
-    requires { ⌜ (s .at + 4 ≤ a .«structure_end») × (Inside (now blob) a × Fits a s) ⌝ }
+    requires { ⌜ Inside (now blob) a × Fits a s ⌝ }
     ensures { λ r. ⌜ r ≡ propertyAt (now (blob .entry)) a s ⌝ }
 {
     let at = s.at;
-    let left = a.structure_end - at;
-    if left < 12 {
+    let whole = property_size(blob, at, a.structure_end);
+    if whole == 0 {
         return Step::Bad(Unreadable::Structure);
     }
     let size = read_u32(blob, at + 4);
-    let whole = round_up(size as usize, 4);
-    if left - 12 < whole {
-        return Step::Bad(Unreadable::Structure);
-    }
     let name = a.strings + read_u32(blob, at + 8) as usize;
     if a.strings_end <= zero_from(blob, name, a.strings_end) {
         return Step::Bad(Unreadable::NameOffset);
     }
+    let name_place = name as u32;
+    let next = at + whole;
     Step::Entry(
         Entry {
             token: FDT_PROP,
             place: at as u32,
-            name: name as u32,
+            name: name_place,
             size,
         },
         State {
-            at: at + 12 + whole,
+            at: next,
             depth: s.depth,
             takes_property: true,
         },

@@ -1,47 +1,62 @@
--- `property_at` makes the tests of `propertyAt` in their order; a name that meets a 0 inside the strings has a place in the blob.
+-- `property_at` makes the tests of `propertyAt` in their order: a size that is not 0 says that the property is whole (`size-whole`),
+-- and a name that meets a 0 inside the strings has a place in the blob.
 use native.Mathlib.Omega.{arith}
 use borrow.Author.Needs.{needs}
-use borrow.Author.Tests.{le-leb, lt-leb, lt-ltb, le-ltb}
+use borrow.Author.Tests.{le-leb, lt-leb}
 use Rattle.fdt_format.specs.Step.{propertyAt}
+use Rattle.fdt_format.proofs.Steps.{is-whole, size-none, size-whole}
 use Rattle.fdt_read_token.proofs.Zeros.{found-ge}
 use Rattle.fdt_read_token.proofs.property_at.Statement.{statement}
 use Rattle.fdt_read_token.proofs.property_at.Tie as tie
 
 returns : tie.Need-returns
 unfolding propertyAt
-returns c = rw (lt-ltb _ _ (c .if1 .taken))
+returns c = rw (size-none _ _ _ (c .before .property-size .ensures) (c .if1 .taken))
+
+read-u32-requires : tie.Need-read-u32-requires
+read-u32-requires c κs = let w = size-whole _ _ _ (c .before .property-size .ensures) (c .if1 .left) in omega (arith, w .0 .words)
+
+read-u32-requires-2 : tie.Need-read-u32-requires-2
+read-u32-requires-2 c κs = let w = size-whole _ _ _ (c .before .before .property-size .ensures) (c .before .if1 .left) in omega (arith, w .0 .words)
 
 returns-2 : tie.Need-returns-2
 unfolding propertyAt
 returns-2 c =
-    rw (le-ltb _ _ (c .before .before .before .if1 .left), ← c .before .before .read-u32 .ensures, ← c .before .round-up .ensures, lt-ltb _ _ (c .if2 .taken))
+    let offset = c .before .before .before .before in
+    let size = offset .before .before in
+    let w = size-whole _ _ _ (size .before .property-size .ensures) (size .if1 .left) in
+    rw (is-whole _ _ _ (w .0), ← offset .read-u322 .ensures, ← c .before .before .zero-from .ensures, le-leb _ _ (c .if2 .taken))
+
+cast-name-place : tie.Need-cast-name-place
+cast-name-place c = omega (arith, found-ge _ _ _ _ (c .before .before .zero-from .ensures))
+
+add-next : tie.Need-add-next
+add-next c =
+    let size = c .before .before .before .before .before .before in
+    let w = size-whole _ _ _ (size .before .property-size .ensures) (size .if1 .left) in
+    omega (arith, w .0 .ends, w .1)
 
 returns-3 : tie.Need-returns-3
 unfolding propertyAt
 returns-3 c =
-    let w = c .before .before .before .before in
-    rw (← w .before .before .before .read-u32 .ensures, ← w .before .before .round-up .ensures, ← w .read-u322 .ensures, ← c .before .before .zero-from .ensures, le-ltb _ _ (w .before .before .before .before .if1 .left), le-ltb _ _ (w .before .if2 .left), le-leb _ _ (c .if3 .taken))
-
-cast-t16 : tie.Need-cast-t16
-cast-t16 c = omega (arith, found-ge _ _ _ _ (c .before .before .zero-from .ensures))
-
-returns-4 : tie.Need-returns-4
-unfolding propertyAt
-returns-4 c =
-    let w = c .before .before .before .before in
-    rw (← w .before .before .before .read-u32 .ensures, ← w .before .before .round-up .ensures, ← w .read-u322 .ensures, ← c .before .before .zero-from .ensures, le-ltb _ _ (w .before .before .before .before .if1 .left), le-ltb _ _ (w .before .if2 .left), lt-leb _ _ (c .if3 .left))
+    let offset = c .before .before .before .before in
+    let size = offset .before .before in
+    let w = size-whole _ _ _ (size .before .property-size .ensures) (size .if1 .left) in
+    rw (is-whole _ _ _ (w .0), ← w .1, ← offset .before .read-u32 .ensures, ← offset .read-u322 .ensures, ← c .before .before .zero-from .ensures, lt-leb _ _ (c .if2 .left))
 
 pub property-at-spec : {M : Type 1} → statement M
 property-at-spec =
     tie.close
     (tie.spec
-    (λ c. search needs)
+    (λ c κs. search needs)
     returns
-    (λ c. search needs) (λ c κs. search needs) (λ c. search needs) (λ c κs. search needs)
-    returns-2
-    (λ c. search needs) (λ c κs. search needs) (λ c. search needs) (λ c. search needs) (λ c κs. search needs)
-    returns-3
     (λ c. search needs)
-    cast-t16
-    (λ c. search needs) (λ c. search needs)
-    returns-4)
+    read-u32-requires
+    (λ c. search needs)
+    read-u32-requires-2
+    (λ c. search needs) (λ c. search needs) (λ c κs. search needs)
+    returns-2
+    cast-name-place
+    add-next
+    (λ c. search needs)
+    returns-3)
