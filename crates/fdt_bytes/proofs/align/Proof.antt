@@ -9,7 +9,9 @@ use Rattle.fdt_bytes.proofs.align.Tie as tie
 
 returns : tie.Need-returns
 returns c =
-    c .before .before .pad .ensures ∙ ap (λ (n : ℕ). over (zeros n) (c .before .before .before .before .before .before .args .rest .now)) (c .before .before .before .padding-of .ensures)
+    let call = c .before .before in
+    let rest = call .before .before .before .before .args .rest .now in
+    call .pad .ensures ∙ ap (λ (n : ℕ). over (zeros n) rest) (call .before .padding-of .ensures)
 
 pub align-spec : {M : Type 1} → statement M
 align-spec = tie.close (tie.spec (λ c κs. search needs) (λ c κs. search needs) (λ c. search needs) returns)

@@ -12,9 +12,9 @@ use Rattle.fdt_bytes.proofs.append_bytes.Tie as tie
 returns : tie.Need-returns
 unfolding over
 returns c =
-    let val = c .before .before .before .before .before .before .args .val .now in
-    let rest = c .before .before .before .before .before .before .args .rest .now in
-    c .before .before .copy .ensures .1 ∙ ap (λ (l : List ℕ). l ++ drop (length val) rest) (take-length val)
+    let call = c .before .before in
+    let a = call .before .before .before .before .args in
+    call .copy .ensures .1 ∙ ap (λ (l : List ℕ). l ++ drop (length (a .val .now)) (a .rest .now)) (take-length (a .val .now))
 
 pub append-bytes-spec : {M : Type 1} → statement M
 append-bytes-spec = tie.close (tie.spec (λ c κs. search needs) (λ c. search needs) returns)

@@ -15,16 +15,18 @@ use Rattle.fdt_bytes.proofs.append_u64.Tie as tie
 returns : tie.Need-returns
 unfolding splice
 returns c =
-    let val = c .before .before .before .before .before .before .before .before .before .args .val in
-    let rest = c .before .before .before .before .before .before .before .before .before .args .rest .now in
+    let second = c .before .before in
+    let first = second .before .before .before .before in
+    let start = first .before .before .before in
+    let val = start .args .val in
+    let rest = start .args .rest .now in
     let high = bigEndian 4 (val / 0x1_0000_0000) in
     let low = bigEndian 4 (val % 0x1_0000_0000) in
-    let first = c .before .before .before .before .before .before .append-u32 in
     let n : length high ≡ 4 = length-bigEndian 4 (val / 0x1_0000_0000) in
-    let room : 8 ≤ length rest = c .before .before .before .before .before .before .before .before .before .pre in
-    let kept : length (first .last .0) ≡ length rest = ap length (first .ensures) ∙ length-over high rest (omega arith) in
-    lent 4 low (first .last .0) (c .before .before .append-u322 .last .0) (omega arith) (c .before .before .append-u322 .ensures)
-    ∙ ap (splice 4 low) (first .ensures)
+    let room : 8 ≤ length rest = start .pre in
+    let kept : length (first .append-u32 .last .0) ≡ length rest = ap length (first .append-u32 .ensures) ∙ length-over high rest (omega arith) in
+    lent 4 low (first .append-u32 .last .0) (second .append-u322 .last .0) (omega arith) (second .append-u322 .ensures)
+    ∙ ap (splice 4 low) (first .append-u32 .ensures)
     ∙ splice-splice 0 4 high low rest (omega arith) (omega arith)
     ∙ ap (λ (l : List ℕ). over l rest) (ap (λ (l : List ℕ). high ++ l) (low-digits 4 val) ∙ sym (in-two 4 4 val))
 

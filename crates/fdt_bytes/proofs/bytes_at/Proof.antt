@@ -7,8 +7,9 @@ use Rattle.fdt_bytes.proofs.bytes_at.Tie as tie
 
 returns : tie.Need-returns
 returns c =
-    let a = c .before .before .before .before .before .before .args in
-    lent (a .at) (a .val .now) (a .blob .now) _ (omega (arith, c .before .before .before .before .before .before .pre)) (c .before .before .append-bytes .ensures)
+    let call = c .before .before in
+    let start = call .before .before .before .before in
+    lent (start .args .at) (start .args .val .now) (start .args .blob .now) _ (omega (arith, start .pre)) (call .append-bytes .ensures)
 
 pub bytes-at-spec : {M : Type 1} → statement M
 bytes-at-spec =

@@ -7,12 +7,11 @@ use Rattle.fdt_bytes.proofs.read_u32.Tie as tie
 
 returns : tie.Need-returns
 returns c =
-    rw (
-      c .before .before .before .before .before .before .widened .ensures .0,
-      c .before .before .before .before .widened2 .ensures .0,
-      c .before .before .widened3 .ensures .0,
-      c .widened4 .ensures .0,
-    ) (sym (word-bytes _ _ (c .before .before .before .before .before .before .before .before .before .pre)))
+    let third = c .before .before in
+    let second = third .before .before in
+    let first = second .before .before in
+    rw (first .widened .ensures .0, second .widened2 .ensures .0, third .widened3 .ensures .0, c .widened4 .ensures .0)
+    (sym (word-bytes _ _ (first .before .before .before .pre)))
 
 pub read-u32-spec : {M : Type 1} → statement M
 read-u32-spec =

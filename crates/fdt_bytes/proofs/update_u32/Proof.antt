@@ -8,8 +8,9 @@ use Rattle.fdt_bytes.proofs.update_u32.Tie as tie
 
 returns : tie.Need-returns
 returns c =
-    let a = c .before .before .before .before .before .args in
-    lent (a .offset) (bigEndian 4 (a .val)) (a .blob .now) _ (omega (arith, c .before .before .before .before .before .pre)) (c .before .before .append-u32 .ensures)
+    let call = c .before .before in
+    let start = call .before .before .before in
+    lent (start .args .offset) (bigEndian 4 (start .args .val)) (start .args .blob .now) _ (omega (arith, start .pre)) (call .append-u32 .ensures)
 
 pub update-u32-spec : {M : Type 1} → statement M
 update-u32-spec =

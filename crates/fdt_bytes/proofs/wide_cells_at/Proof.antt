@@ -14,7 +14,10 @@ abbrev μ-loop : tie.MeasureT-loop
 μ-loop blob₀ at cells i₀ blob i = length cells - i
 
 loop-again : tie.Need-loop-again Inv-loop μ-loop
-loop-again c = written-more (c .before .before .before .before .before .before .before .before .before .pre) (c .before .before .before .before .before .before .loop .inv) (c .before .before .before .before .before .loop-test .taken) (c .before .before .append-u64 .ensures)
+loop-again c =
+    let call = c .before .before in
+    let turn = call .before .before .before in
+    written-more (turn .before .before .before .before .pre) (turn .before .loop .inv) (turn .loop-test .taken) (call .append-u64 .ensures)
 
 pub wide-cells-at-spec : {M : Type 1} → statement M
 wide-cells-at-spec =

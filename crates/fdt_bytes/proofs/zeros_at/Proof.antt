@@ -8,8 +8,9 @@ use Rattle.fdt_bytes.proofs.zeros_at.Tie as tie
 
 returns : tie.Need-returns
 returns c =
-    let a = c .before .before .before .before .before .args in
-    lent (a .at) (zeros (a .num-bytes)) (a .blob .now) _ (omega (arith, c .before .before .before .before .before .pre)) (c .before .before .pad .ensures)
+    let call = c .before .before in
+    let start = call .before .before .before in
+    lent (start .args .at) (zeros (start .args .num-bytes)) (start .args .blob .now) _ (omega (arith, start .pre)) (call .pad .ensures)
 
 pub zeros-at-spec : {M : Type 1} → statement M
 zeros-at-spec =

@@ -16,18 +16,19 @@ returns-2 c = rw (le-leb _ _ (c .before .before .if1 .left), ← c .before .read
 returns-3 : tie.Need-returns-3
 unfolding goodWords
 returns-3 c =
-    let w = c .before .before .before in
-    rw (le-leb _ _ (w .before .if1 .left), ← w .read-u32 .ensures, eq-eqb _ _ (c .before .before .if2 .left), ← c .before .read-u322 .ensures, ne-eqb _ _ (c .if3 .taken))
+    let magic = c .before .before .before in
+    rw (le-leb _ _ (magic .before .if1 .left), ← magic .read-u32 .ensures, eq-eqb _ _ (c .before .before .if2 .left), ← c .before .read-u322 .ensures, ne-eqb _ _ (c .if3 .taken))
 
 returns-4 : tie.Need-returns-4
 unfolding goodWords
 returns-4 c =
-    let w = c .before .before .before .before .before in
+    let size = c .before .before .before in
+    let magic = size .before .before in
     rw (
-      le-leb _ _ (w .before .if1 .left),
-      ← w .read-u32 .ensures,
-      eq-eqb _ _ (c .before .before .before .before .if2 .left),
-      ← c .before .before .before .read-u322 .ensures,
+      le-leb _ _ (magic .before .if1 .left),
+      ← magic .read-u32 .ensures,
+      eq-eqb _ _ (size .before .if2 .left),
+      ← size .read-u322 .ensures,
       eq-eqb _ _ (c .before .before .if3 .left),
       ← c .before .read-u323 .ensures,
       ne-eqb _ _ (c .if4 .taken),
@@ -36,14 +37,16 @@ returns-4 c =
 returns-5 : tie.Need-returns-5
 unfolding goodWords
 returns-5 c =
-    let w = c .before .before .before .before .before .before in
+    let version = c .before .before in
+    let size = version .before .before in
+    let magic = size .before .before in
     rw (
-      le-leb _ _ (w .before .if1 .left),
-      ← w .read-u32 .ensures,
-      eq-eqb _ _ (c .before .before .before .before .before .if2 .left),
-      ← c .before .before .before .before .read-u322 .ensures,
-      eq-eqb _ _ (c .before .before .before .if3 .left),
-      ← c .before .before .read-u323 .ensures,
+      le-leb _ _ (magic .before .if1 .left),
+      ← magic .read-u32 .ensures,
+      eq-eqb _ _ (size .before .if2 .left),
+      ← size .read-u322 .ensures,
+      eq-eqb _ _ (version .before .if3 .left),
+      ← version .read-u323 .ensures,
       eq-eqb _ _ (c .before .if4 .left),
       ← c .read-u324 .ensures,
     )

@@ -32,7 +32,8 @@ cast-name-place c = omega (arith, found-ge _ _ _ _ (c .before .before .zero-from
 
 add-next : tie.Need-add-next
 add-next c =
-    let size = c .before .before .before .before .before .before in
+    let offset = c .before .before .before .before in
+    let size = offset .before .before in
     let w = size-whole _ _ _ (size .before .property-size .ensures) (size .if1 .left) in
     omega (arith, w .0 .ends, w .1)
 

@@ -1,9 +1,7 @@
--- `step_at` reads the word, and what stands there is by that word.
-use mathlib.Core.Path.{sym, _∙_}
+-- `step_at` makes the tests of `stepAt` in their order.
 use borrow.Author.Needs.{needs}
 use borrow.Author.Tests.{lt-ltb, le-ltb, ne-eqb}
-use Rattle.fdt_format.specs.Step.{stepAt}
-use Rattle.fdt_read_token.proofs.Steps.{at-begin, at-end, at-property, late-property, at-final}
+use Rattle.fdt_format.specs.Step.{propertyAt, stepAt}
 use Rattle.fdt_read_token.proofs.step_at.Statement.{statement}
 use Rattle.fdt_read_token.proofs.step_at.Tie as tie
 
@@ -12,38 +10,44 @@ unfolding stepAt
 returns c = rw (lt-ltb _ _ (c .if1 .taken))
 
 returns-2 : tie.Need-returns-2
+unfolding stepAt
 returns-2 c =
-    let w = c .before .before in
-    c .begin-at .ensures ∙ sym (at-begin _ _ _ (le-ltb _ _ (w .before .if1 .left)) (sym (w .read-u32 .ensures) ∙ c .before .if2 .taken))
+    let word = c .before .before in
+    rw (le-ltb _ _ (word .before .if1 .left), ← word .read-u32 .ensures, c .before .if2 .taken) (c .begin-at .ensures)
 
 returns-3 : tie.Need-returns-3
+unfolding stepAt
 returns-3 c =
-    let w = c .before .before .before in
-    c .end-at .ensures ∙ sym (at-end _ _ _ (le-ltb _ _ (w .before .if1 .left)) (sym (w .read-u32 .ensures) ∙ c .before .if3 .taken))
+    let word = c .before .before .before in
+    rw (le-ltb _ _ (word .before .if1 .left), ← word .read-u32 .ensures, c .before .if3 .taken) (c .end-at .ensures)
 
 returns-4 : tie.Need-returns-4
+unfolding stepAt propertyAt
 returns-4 c =
-    let w = c .before .before .before .before .before in
-    c .property-at .ensures
-    ∙ sym (at-property _ _ _ (le-ltb _ _ (w .before .if1 .left)) (sym (w .read-u32 .ensures) ∙ c .before .before .if4 .taken) (c .before .if5 .taken))
+    let property = c .before .before in
+    let word = property .before .before .before in
+    rw (le-ltb _ _ (word .before .if1 .left), ← word .read-u32 .ensures, property .if4 .taken, c .before .if5 .taken) (c .property-at .ensures)
 
 returns-5 : tie.Need-returns-5
+unfolding stepAt
 returns-5 c =
-    let w = c .before .before .before .before in
-    sym (late-property _ _ _ (le-ltb _ _ (w .before .if1 .left)) (sym (w .read-u32 .ensures) ∙ c .before .if4 .taken) (c .if5 .left))
+    let word = c .before .before .before .before in
+    rw (le-ltb _ _ (word .before .if1 .left), ← word .read-u32 .ensures, c .before .if4 .taken, c .if5 .left)
 
 returns-6 : tie.Need-returns-6
+unfolding stepAt
 returns-6 c =
-    let w = c .before .before .before .before .before in
-    c .final-at .ensures ∙ sym (at-final _ _ _ (le-ltb _ _ (w .before .if1 .left)) (sym (w .read-u32 .ensures) ∙ c .before .if6 .taken))
+    let final = c .before in
+    let word = final .before .before .before .before in
+    rw (le-ltb _ _ (word .before .if1 .left), ← word .read-u32 .ensures, final .if6 .taken) (c .final-at .ensures)
 
 returns-7 : tie.Need-returns-7
 unfolding stepAt
 returns-7 c =
-    let w = c .before .before .before .before in
+    let word = c .before .before .before .before in
     rw (
-      le-ltb _ _ (w .before .if1 .left),
-      ← w .read-u32 .ensures,
+      le-ltb _ _ (word .before .if1 .left),
+      ← word .read-u32 .ensures,
       ne-eqb _ _ (c .before .before .before .if2 .left),
       ne-eqb _ _ (c .before .before .if3 .left),
       ne-eqb _ _ (c .before .if4 .left),
