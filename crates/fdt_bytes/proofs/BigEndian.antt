@@ -20,7 +20,7 @@ length-bigEndian zero v = refl
 length-bigEndian (suc k) v =
     length-append (bigEndian k (v / 256)) (v % 256 ∷ []) ∙ ap (λ (n : ℕ). n + 1) (length-bigEndian k (v / 256)) ∙ add-one k
 
--- bytes in two parts: the first counts as often as the second has numbers
+-- bytes in two parts: the first part counts 256 times for each byte of the second
 pub from-append : (bs cs : List ℕ) → fromBigEndian (bs ++ cs) ≡ fromBigEndian bs * 256 ^ length cs + fromBigEndian cs
 unfolding fromBigEndian
 from-append [] cs = omega arith
@@ -37,7 +37,7 @@ from-snoc : (bs : List ℕ) (b : ℕ) → fromBigEndian (bs ++ (b ∷ [])) ≡ f
 unfolding fromBigEndian
 from-snoc bs b = from-append bs (b ∷ []) ∙ omega arith
 
--- reading back what was written gives the number, as far as the width holds it
+-- reading back gives the low digits that the width holds
 pub from-bigEndian : (width v : ℕ) → fromBigEndian (bigEndian width v) ≡ v % 256 ^ width
 unfolding bigEndian fromBigEndian
 from-bigEndian zero v = sym (mod-one v)
@@ -46,7 +46,7 @@ from-bigEndian (suc k) v =
     ∙ ap (λ (n : ℕ). n * 256 + v % 256) (from-bigEndian k (v / 256))
     ∙ sym (ap (λ (n : ℕ). v % n) (pow-suc 256 k) ∙ mod-mul v (one-le-pow k 256 (lit< tt)) (lit< tt))
 
--- reading back gives the number where it fits the width
+-- reading back gives the number, if it fits the width
 pub round-trip : (width v : ℕ) → v < 256 ^ width → fromBigEndian (bigEndian width v) ≡ v
 round-trip width v h = from-bigEndian width v ∙ mod-eq-of-lt h
 
@@ -84,7 +84,7 @@ bytes-cons b bs h = go (ltb b 256) refl h
     go true e h = (ltb-true b 256 e, h)
     go false e h = absurd h
 
--- what bytes say is below the power of their number
+-- n bytes encode a number below 256 ^ n
 pub from-lt : (bs : List ℕ) → T (areBytes bs) → fromBigEndian bs < 256 ^ length bs
 unfolding fromBigEndian
 from-lt [] h = lit< tt
@@ -92,7 +92,7 @@ from-lt (b ∷ bs) h =
     let p = bytes-cons b bs h in
     rw (pow-succ' 256 (length bs)) (digits-lt (p .0) (from-lt bs (p .1)))
 
--- writing again what bytes say gives the bytes
+-- writing the number that bytes encode gives the bytes
 pub round-trip-back : (bs : List ℕ) → T (areBytes bs) → bigEndian (length bs) (fromBigEndian bs) ≡ bs
 unfolding fromBigEndian bigEndian
 round-trip-back [] h = refl
@@ -115,7 +115,7 @@ bytes-append : (ds bs : List ℕ) → T (areBytes ds) → T (areBytes bs) → T 
 bytes-append [] bs g h = h
 bytes-append (d ∷ ds) bs g h = let p = bytes-cons d ds g in simp (lt-ltb d 256 (p .0)) (bytes-append ds bs (p .1) h)
 
--- what is written are bytes
+-- written numbers are bytes
 pub bigEndian-bytes : (width v : ℕ) → T (areBytes (bigEndian width v))
 unfolding bigEndian
 bigEndian-bytes zero v = tt
@@ -147,7 +147,7 @@ cells-more width vs i h =
 -- ---- numbers at a place of bytes
 
 module _ (b : List ℕ) (at : ℕ) where
-  -- a number in two parts: the high digits stand first
+  -- a number in two parts: the high digits come first
   pub read-in-two : (j k : ℕ) → at + (j + k) ≤ length b → numberAt (j + k) b at ≡ numberAt j b at * 256 ^ k + numberAt k b (at + j)
   unfolding numberAt
   read-in-two j k h =

@@ -1,4 +1,4 @@
--- Numbers of one width written one after the other: what each turn of such a loop leaves, at any width.
+-- A loop that writes numbers of one width one after the other: what holds after each turn, at any width.
 use mathlib.Core.Path.{_≡_, refl, sym, ap, _∙_}
 use mathlib.Core.List.{List}
 use Prim.Native.Nat.{ℕ, _+_, _-_, _*_, _≤_, _<_}
@@ -13,7 +13,7 @@ use Rattle.fdt_bytes.specs.Splice.{over, splice}
 use Rattle.fdt_bytes.proofs.BigEndian.{length-bigEndian, length-cells, cells-more}
 use Rattle.fdt_bytes.proofs.Splice.{length-splice, lent, splice-splice}
 
--- the first i numbers have been written, and the blob keeps its length
+-- the first i numbers are written, and the blob keeps its length
 pub record Written (width at : ℕ) (vs before now : List ℕ) (i : ℕ) : Type 0 where
   pub within : i ≤ length vs
   pub kept : length now ≡ length before
@@ -28,7 +28,7 @@ pub written-all : {width at : ℕ} {vs before now : List ℕ} {i : ℕ} → Writ
 written-all {width} {at} {vs} {before} {i = i} w h =
     w .blob-is ∙ ap (λ (l : List ℕ). splice at (cellBytes width l) before) (take-all i vs h)
 
--- the turn that writes the number at i, over the front of the part from the next place on
+-- the turn that writes number i to the front of the part that follows the numbers before it
 pub written-more : {width at : ℕ} {vs before now : List ℕ} {i : ℕ} {part : List ℕ} → at + width * length vs ≤ length before → Written width at vs before now i → i < length vs → part ≡ over (bigEndian width (getD vs i 0)) (take (length now - (at + width * i)) (drop (at + width * i) now)) → Written width at vs before (putMid (at + width * i) (length now - (at + width * i)) now part) (i + 1)
 written-more {width} {at} {vs} {before} {now} {i} {part} room w h p =
     let one = bigEndian width (getD vs i 0) in

@@ -11,7 +11,7 @@ pub length-zeros : (n : ℕ) → length (zeros n) ≡ n
 unfolding zeros
 length-zeros n = length-replicate n 0
 
--- padded bytes are as many as their number rounded up
+-- the length of padded bytes is rounded up
 pub length-padded : (m : ℕ) (bs : List ℕ) → length (padded m bs) ≡ roundUp m (length bs)
 unfolding padded roundUp
 length-padded m bs = length-append bs (zeros (padding m (length bs))) ∙ ap (λ (n : ℕ). length bs + n) (length-zeros (padding m (length bs)))
@@ -22,12 +22,12 @@ module _ (m n : ℕ) (pos : 0 < m) where
   unfolding padding
   padding-small = mod-lt (m - n % m) pos
 
-  -- none, where the length is a multiple
+  -- a multiple needs no padding
   pub padding-none : n % m ≡ 0 → padding m n ≡ 0
   unfolding padding
   padding-none e = ap (λ (k : ℕ). (m - k) % m) e ∙ ap (λ (k : ℕ). k % m) (let z : m - 0 ≡ m = omega arith in z) ∙ mod-self m
 
-  -- what is missing to the next multiple, where it is not
+  -- any other length needs what is missing to the next multiple
   pub padding-some : (n % m ≡ 0 → ⊥) → padding m n ≡ m - n % m
   unfolding padding
   padding-some e = mod-eq-of-lt (omega (arith, mod-lt n pos))
@@ -40,7 +40,7 @@ module _ (m n : ℕ) (pos : 0 < m) where
       ∙ ap (λ (k : ℕ). k % m) (let e : n % m + (m - n % m) ≡ m = omega (arith, mod-lt n pos) in e)
       ∙ mod-self m
 
-  -- no multiple from the length on is smaller
+  -- no smaller multiple is at least the length
   pub roundUp-least : (k : ℕ) → k % m ≡ 0 → n ≤ k → roundUp m n ≤ k
   unfolding roundUp
   roundUp-least k e h =

@@ -1,4 +1,4 @@
--- Laws of bytes written into a buffer: its length stays, a part that was lent comes back as a splice, and splices join.
+-- Laws of bytes written into a buffer: its length stays, writing to a lent part is a splice of the whole, and adjacent splices join.
 use mathlib.Core.Path.{_≡_, refl, sym, ap, _∙_}
 use mathlib.Core.List.{List, [], _∷_, _++_, append-assoc, append-nil}
 use Prim.Native.Nat.{ℕ, _+_, _-_, _≤_, _<_}
@@ -24,7 +24,7 @@ pub length-splice : (at : ℕ) (bs xs : List ℕ) → at + length bs ≤ length 
 unfolding splice over
 length-splice at bs xs h = simp (length-append, length-take, length-drop) (omega arith)
 
--- one splice after another, where the first ends
+-- a splice that begins where another ends
 pub splice-splice : (at to : ℕ) (bs cs xs : List ℕ) → at + length bs ≡ to → to ≤ length xs → splice to cs (splice at bs xs) ≡ splice at (bs ++ cs) xs
 unfolding splice over
 splice-splice at to bs cs xs e h =
@@ -41,7 +41,7 @@ splice-splice at to bs cs xs e h =
     ∙ ap (λ (x : List ℕ). p ++ (cs ++ x)) n
     ∙ simp append-assoc
 
--- a part that was lent from `at` on, and came back with bs over its front
+-- the part from `at` on was lent, and its front was overwritten with bs
 pub lent : (at : ℕ) (bs xs ys : List ℕ) → at ≤ length xs → ys ≡ over bs (take (length xs - at) (drop at xs)) → putMid at (length xs - at) xs ys ≡ splice at bs xs
 unfolding splice
 lent at bs xs ys h e =
@@ -49,19 +49,19 @@ lent at bs xs ys h e =
     ap (λ (l : List ℕ). take at xs ++ (ys ++ l)) (drop-of-length-le (drop at xs) n)
     ∙ ap (λ (l : List ℕ). take at xs ++ l) (append-nil ys ∙ e ∙ ap (over bs) (take-all (length xs - at) (drop at xs) n))
 
--- one byte is a splice too
+-- storing one byte is a splice
 pub set-splice : (at b : ℕ) (xs : List ℕ) → at < length xs → set xs at b ≡ splice at (b ∷ []) xs
 unfolding splice over
 set-splice at b xs h = set-split xs at b h ∙ ap (λ (l : List ℕ). take at xs ++ (b ∷ l)) (sym (drop-drop 1 at xs ∙ ap (λ (n : ℕ). drop n xs) (add-one at)))
 
--- three splices, each where the one before ends
+-- three splices, each begins where the one before ends
 pub splice-three : (at to then : ℕ) (bs cs ds xs : List ℕ) → at + length bs ≡ to → to + length cs ≡ then → then ≤ length xs → splice then ds (splice to cs (splice at bs xs)) ≡ splice at (bs ++ (cs ++ ds)) xs
 splice-three at to then bs cs ds xs e f h =
     ap (splice then ds) (splice-splice at to bs cs xs e (omega arith))
     ∙ splice-splice at then (bs ++ cs) ds xs (omega (arith, length-append bs cs)) h
     ∙ ap (λ (l : List ℕ). splice at l xs) (append-assoc bs cs ds)
 
--- Bytes outside a splice are as they were.
+-- Bytes outside a splice stay as they were.
 module _ (at i : ℕ) (bs xs : List ℕ) (room : at + length bs ≤ length xs) where
   pub splice-before : i < at → getD (splice at bs xs) i 0 ≡ getD xs i 0
   unfolding splice over

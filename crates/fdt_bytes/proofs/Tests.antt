@@ -1,4 +1,4 @@
--- Tests of order as Bools.
+-- Two tests of order that mean the same have the same value.
 use mathlib.Core.Path.{_≡_, sym, _∙_}
 use Prim.Native.Nat.{ℕ, _<_}
 use native.Mathlib.Decide.{decLt}
@@ -6,7 +6,6 @@ use native.Mathlib.Omega.{arith}
 use borrow.Author.Tests.{lt-ltb, le-ltb}
 use lib.Dec.{ltb}
 
--- two tests that mean the same
 pub same-test : (p q r u : ℕ) → (p < q → r < u) → (r < u → p < q) → ltb p q ≡ ltb r u
 same-test p q r u f g = go (decLt p q)
   where

@@ -1,4 +1,4 @@
--- Lengths brought to a multiple, and the zeros that do it: "zeros to a multiple of 4" (document 01, "The bytes").
+-- Lengths rounded up to a multiple, and the zeros that fill the gap: "zeros to a multiple of 4" (document 01, "The bytes").
 use Prim.Native.Nat.{ℕ, _+_, _-_, _%_}
 use mathlib.Core.List.{List, _++_}
 use lib.ListN.{length, replicate}
@@ -11,7 +11,7 @@ padding m n = (m - n % m) % m
 unfoldable pub roundUp : ℕ → ℕ → ℕ
 roundUp m n = n + padding m n
 
--- n bytes 0
+-- n zero bytes
 unfoldable pub zeros : ℕ → List ℕ
 zeros n = replicate n 0
 

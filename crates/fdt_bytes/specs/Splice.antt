@@ -1,4 +1,4 @@
--- Bytes written into a buffer: what stood before them and what stands after them stays.
+-- Bytes written into a buffer: the bytes before and after them stay as they were.
 use Prim.Native.Nat.{ℕ}
 use mathlib.Core.List.{List, _++_}
 use lib.ListN.{length, take, drop}

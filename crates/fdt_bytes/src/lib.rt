@@ -1,4 +1,4 @@
-// Big-endian numbers, bytes and padding: written to a buffer that the caller lends, and numbers read back.
+// Big-endian numbers, bytes and padding, in buffers that the caller lends. `rest` is the unused rest of a buffer: its front is written.
 ghost use mathlib.Core.Path.{_≡_};
 ghost use Prim.Native.Nat.{_+_, _*_, _≤_, _<_, _^_};
 ghost use lib.ListN.{length};
@@ -29,7 +29,7 @@ pub fn append_u64(rest: &mut [u8], val: u64)
     append_u32(&mut rest[4..], (val % 0x1_0000_0000) as u32);
 }
 
-// A byte as a word.
+// A byte as a number of 32 bits.
 fn widened(byte: u8) -> u32
     ensures { λ r. ⌜ (r ≡ byte) × (r < 256) ⌝ }
 {

@@ -12,7 +12,7 @@ use Rattle.fdt_format.specs.Reading.{untilZero, nameAt}
 use Rattle.fdt_format.proofs.Steps.{zero-here, zero-on}
 use Rattle.fdt_format.proofs.Words.{BytesAt, bytes-drop, bytes-right}
 
--- the byte that stands first
+-- the first byte
 bytes-first : {b : List ℕ} {at x : ℕ} {xs : List ℕ} → BytesAt b at (x ∷ xs) → getD b at 0 ≡ x
 bytes-first {at} {x} {xs} h = ap (λ (l : List ℕ). getD l at 0) (h .split) ∙ getD-at (h .before) x (xs ++ h .behind) 0 at (h .place)
 

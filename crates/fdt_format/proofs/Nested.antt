@@ -1,5 +1,5 @@
--- A walk that is accepted tells nodes: the depth of its states, and whether they take a property, put events in order. So a reading
--- refuses only what header, reservations or walk refuse.
+-- An accepted walk describes nodes: depth and `takes_property` keep its events in order. So a reading refuses only what header,
+-- reservations or walk refuse.
 use mathlib.Core.Path.{_≡_, refl, sym, ap, subst, _∙_}
 use mathlib.Core.Bool.{Bool, true, false, not, cond, false≢true}
 use mathlib.Core.List.{List, [], _∷_, map}
@@ -21,9 +21,9 @@ use Rattle.fdt_format.specs.Walk.{Walk, bad, good, more, follow, steps, 
 use Rattle.fdt_format.proofs.Nodes.{Accepted, described-by, nodes-exactly}
 use Rattle.fdt_format.proofs.Steps.{Kind, opens, adds, closes, Stepped, step-stepped}
 
--- ---- one token more in front
+-- ---- one more token in front
 
--- a property is taken only in a node
+-- a property may come only inside a node
 unfoldable Open : State → Type 0
 Open s = s .«takes_property» ≡ true → 0 < s .depth
 
@@ -37,7 +37,7 @@ open-on (opens name e d r) o = λ _. omega (arith, d)
 open-on (adds p e d r r') o = λ _. omega (arith, d, o r)
 open-on (closes e d r) o = λ q. absurd (false≢true (sym r ∙ q))
 
--- where no node is open it does not matter whether one was ended
+-- if no node is open it does not matter whether one was ended last
 outside-any : (es : List Event) (x y : Bool) → Accepted 0 x es → Accepted 0 y es
 unfolding Accepted
 outside-any [] x y h = h
@@ -61,7 +61,7 @@ front es (closes e d r) o h = rw (e, ← d) (rw r at h)
 bad-not-good : {r : Unreadable} {ts : List Entry} → bad r ≡ good ts → ⊥
 bad-not-good q = let z : _≡_ {A = ℕ} 0 1 = cc in omega arith
 
--- a good walk with an entry in front: the walk on from it was good
+-- a good walk with an entry in front: the walk after it was good
 record Split (t : Entry) (on : Walk) (ts : List Entry) : Type 0 where
   rest : List Entry
   is : on ≡ good rest
@@ -72,7 +72,7 @@ split t (bad r) ts q = absurd (bad-not-good q)
 split t (good rest) ts q = record { rest = rest; is = refl; all = cc }
 
 module _ (b : List ℕ) where
-  -- by what stands at a state, if the walk on from it tells events in order
+  -- by the token at a state, if the walk after it has its events in order
   here : (a : Areas) (on : State → Walk) (s : State) → Open s → ((s' : State) → Open s' → (ts : List Entry) → on s' ≡ good ts → Ordered s' (map (eventAt b) ts))
       → (x : Step) → Stepped b a s x → (ts : List Entry) → follow x on ≡ good ts → Ordered s (map (eventAt b) ts)
   unfolding Stepped Ordered Accepted
@@ -89,7 +89,7 @@ module _ (b : List ℕ) where
     ordered zero s o ts q = absurd (bad-not-good q)
     ordered (suc k) s o ts q = here a (steps (stepAt b a) k) s o (ordered k) (stepAt b a s) (step-stepped b a s) ts q
 
-    -- a walk that is accepted tells nodes
+    -- an accepted walk describes nodes
     pub nested : (ts : List Entry) → walk b a (start a) ≡ good ts → (f : Nodes) × (nodesOf (map (eventAt b) ts) ≡ some f)
     unfolding walk start Open Ordered
     nested ts q =
@@ -99,7 +99,7 @@ module _ (b : List ℕ) where
 
 -- ---- the reading
 
--- what is read of a blob: a good header, its reservations and boot number, and nodes whose events are those of a good walk
+-- what a reading finds in a blob: a good header, its reservations and boot number, and nodes whose events are those of a good walk
 pub record Parts (b : List ℕ) (d : Description) : Type 0 where
   pub header : goodHeader b ≡ true
   pub reservations : readReservations b (areasOf b) ≡ some (d .reservations)
@@ -141,11 +141,11 @@ module _ (b : List ℕ) where
       let n : nodesOf (map (eventAt b) (p .entries)) ≡ some (d .nodes) = nodes-exactly _ (d .nodes) .1 (p .nodes) in
       rw (p .header, p .reservations, p .walked, n, p .boot)
 
-  -- the reading gives a description exactly where it has these parts
+  -- the reading gives a description exactly when the blob has these parts
   pub reading-is : (d : Description) → (reading b ≡ some d) ↔ Parts b d
   reading-is d = (read-parts d, parts-read d)
 
-  -- a reading refuses nothing else: of such a header, reservations and walk there is always a description
+  -- a reading refuses nothing else: a good header, reservations and a good walk always give a description
   pub read-exactly : (rs : List Reservation) (ts : List Entry) → goodHeader b ≡ true → readReservations b (areasOf b) ≡ some rs
       → walk b (areasOf b) (start (areasOf b)) ≡ good ts
       → (f : Nodes) × (events f [] ≡ map (eventAt b) ts) × (reading b ≡ some (record { reservations = rs; boot = areasOf b .boot; nodes = f }))

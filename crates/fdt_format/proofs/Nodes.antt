@@ -1,4 +1,4 @@
--- Nodes and their events determine each other, and events are those of nodes exactly where the state accepts them.
+-- Nodes and their events determine each other, and events are those of nodes exactly when they are in order.
 use mathlib.Core.Path.{_≡_, refl, ap, sym, _∙_}
 use mathlib.Core.Bool.{Bool, true, false, false≢true}
 use mathlib.Core.List.{List, [], _∷_, cons≢nil}
@@ -38,7 +38,7 @@ tell-events (node name ps children later) es g around e =
     rw (tell-events children rest no-more (join later g ∷ around) after, join-none children) in
     ap (inFront (begins name)) (tell-properties ps (events children rest) children (join later g ∷ around) below)
 
--- the events of nodes tell them
+-- the events of nodes give back the nodes
 pub nodes-events : (f : Nodes) → nodesOf (events f []) ≡ some f
 unfolding nodesOf tell whole
 nodes-events f = rw (tell-events f [] no-more [] refl, join-none f)
@@ -50,7 +50,7 @@ unfoldable outside : List Nodes → List Event
 outside [] = []
 outside (f ∷ around) = ends ∷ events f (outside around)
 
--- the events that tell this
+-- the events that mean this
 unfoldable retold : Told → List Event
 retold misplaced = []
 retold (told ps f around) = propertyEvents ps (events f (outside around))
@@ -92,7 +92,7 @@ unfolding whole Placed
 placed-whole misplaced f h = absurd (Option·none-ne-some f h)
 placed-whole (told ps g around) f h = tt
 
--- the nodes that events tell are those whose events they are
+-- the nodes of events are those whose events they are
 pub nodes-exactly : (es : List Event) (f : Nodes) → (nodesOf es ≡ some f) ↔ (events f [] ≡ es)
 unfolding nodesOf
 nodes-exactly es f = (
@@ -112,7 +112,7 @@ Accepted zero ended (has p ∷ es) = ⊥
 Accepted (suc depth) false (has p ∷ es) = Accepted (suc depth) false es
 Accepted (suc depth) true (has p ∷ es) = ⊥
 
--- what such events tell: as many nodes are around, and properties only where one may stand
+-- what such events mean: as many nodes are around, and properties only where one may come
 unfoldable Shape : ℕ → Bool → Told → Type 0
 Shape depth ended misplaced = ⊥
 Shape depth ended (told ps f around) = (length around ≡ depth) × (ended ≡ true → ps ≡ []) × (depth ≡ 0 → ps ≡ [])

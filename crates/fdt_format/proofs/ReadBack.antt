@@ -33,11 +33,11 @@ module _ (rs : List Reservation) (boot : ℕ) (es : List Event) where
   abbrev header : List ℕ
   header = headerBytes (length rs) stringsStart (length (joined (namesOf es))) boot
 
-  -- what stands behind the reservations
+  -- what follows the reservations
   abbrev behind : List ℕ
   behind = structureBytes (namesOf es) es ++ finalBytes (joined (namesOf es))
 
-  -- each part stands where the header says
+  -- each part is where the header says
   whole-held : BytesAt (blobFrom rs boot es) 0 (header ++ (reservationBytes (numbersOf rs) ++ behind))
   unfolding blobFrom
   whole-held = record { before = []; behind = []; split = sym (append-nil _); place = refl }
@@ -80,7 +80,7 @@ module _ (rs : List Reservation) (boot : ℕ) (es : List Event) where
         reservations-read (blobFrom rs boot es) rs ((length (blobFrom rs boot es) - headerSize) / 16) headerSize t (omega (arith, length-from))
         (bytes-left (reservationBytes (numbersOf rs)) behind rest-held)
 
-    -- the blob of reservations, a boot number and events in order is read as these, and the nodes that the events tell
+    -- the blob of reservations, a boot number and events in order is read as these, with the nodes of the events
     pub read-from : AllTold rs → AllPlain es → Accepted 0 false es → reading (blobFrom rs boot es) ≡ described boot (some rs) (nodesOf es)
     unfolding reading areasFrom areas
     read-from t p c =
@@ -106,6 +106,6 @@ read-blob d w =
     read-from (d .reservations) (d .boot) es (w .boot) (w .size) (w .told) (w .names) (accepted-events (d .nodes))
     ∙ ap (described (d .boot) (some (d .reservations))) (nodes-events (d .nodes))
 
--- two descriptions have the same blob exactly where they are the same
+-- two descriptions have the same blob exactly when they are the same
 pub same-blob : (d e : Description) → WellFormed d → WellFormed e → (blobOf d ≡ blobOf e) ↔ (d ≡ e)
 same-blob d e v w = (λ h. Option·some-injective d e (sym (read-blob d v) ∙ ap reading h ∙ read-blob e w), ap blobOf)

@@ -1,4 +1,4 @@
--- What stands at a state: each token moves the place on inside the structure, and begins a node, is a property or ends a node.
+-- The token at a state moves the place on inside the structure, and begins a node, is a property or ends a node.
 use mathlib.Core.Path.{_≡_, refl, subst}
 use mathlib.Core.Bool.{Bool, true, false, _&&_, cond, false≢true}
 use mathlib.Core.List.{List}
@@ -40,15 +40,15 @@ module _ (b : List ℕ) (e i : ℕ) where
       let z : e - i ≡ suc (e - (i + 1)) = omega arith in
       rw (z, add-one i)
 
-  -- it stands here
+  -- it is here
   pub zero-here : i < e → getD b i 0 ≡ 0 → zeroFrom b (e - i) i ≡ i
   zero-here h z = rw (one-more h, eq-eqb _ _ z)
 
-  -- it stands further on
+  -- it is further on
   pub zero-on : i < e → (getD b i 0 ≡ 0 → ⊥) → zeroFrom b (e - i) i ≡ zeroFrom b (e - (i + 1)) (i + 1)
   zero-on h n = rw (one-more h, ne-eqb _ _ n)
 
--- it is not before the place
+-- it is at the place or after it
 pub zero-ge : (b : List ℕ) (k at : ℕ) → at ≤ zeroFrom b k at
 unfolding zeroFrom
 zero-ge b zero at = omega arith
@@ -77,7 +77,7 @@ module _ (b : List ℕ) (end at : ℕ) where
   unfolding wholeAt
   is-whole w = rw (le-leb _ _ (w .words), eq-eqb _ _ (w .token), le-leb _ _ (w .ends))
 
-  -- a size of 0 says that no whole property stands there, and any other that one does
+  -- a size of 0 means that no whole property is there, and any other that one is
   by-size : (t : Bool) → wholeAt b end at ≡ t → {size : ℕ} → size ≡ cond t (propertySize (wordAt b (at + 4))) 0
       → (size ≡ 0 → wholeAt b end at ≡ false) × ((size ≡ 0 → ⊥) → Whole × (size ≡ propertySize (wordAt b (at + 4))))
   by-size true e s = (λ z. absurd (omega (arith, s)), λ n. (whole-is e, s))
@@ -92,7 +92,7 @@ module _ (b : List ℕ) (end at : ℕ) where
     unfolding sizeAt
     size-whole = by-size (wholeAt b end at) refl s .1
 
--- ---- what an entry tells, by its token
+-- ---- the event of an entry, by its token
 
 module _ (b : List ℕ) (t : Entry) where
   pub event-begins : t .token ≡ beginToken → eventAt b t ≡ begins (nameAt b (t .name))
@@ -109,7 +109,7 @@ module _ (b : List ℕ) (t : Entry) where
 
 -- ---- how a token moves the state
 
--- the place moves on, and not past the structure's end
+-- the place moves on, and stays inside the structure
 pub record Moved (a : Areas) (s s' : State) : Type 0 where
   pub on : s .at < s' .at
   pub within : s' .at ≤ a .«structure_end»
@@ -120,7 +120,7 @@ pub data Kind (b : List ℕ) (s : State) (t : Entry) (s' : State) : Type 0 where
   adds : (p : Property) → eventAt b t ≡ has p → s' .depth ≡ s .depth → s .«takes_property» ≡ true → s' .«takes_property» ≡ true → Kind b s t s'
   closes : eventAt b t ≡ ends → suc (s' .depth) ≡ s .depth → s' .«takes_property» ≡ false → Kind b s t s'
 
--- what stands at a state does both, or is the final word where no node is open, or is refused
+-- an entry does both; the final word comes where no node is open
 unfoldable pub Stepped : List ℕ → Areas → State → Step → Type 0
 Stepped b a s (step.Entry t s') = Moved a s s' × Kind b s t s'
 Stepped b a s step.Final = s .depth ≡ 0

@@ -1,4 +1,4 @@
--- Laws of the names in the strings: each stands where it was first used, once, and stays there as names are added at the end.
+-- Laws of the names in the strings: each is there once, in order of first use, and keeps its offset as names are added at the end.
 use mathlib.Core.Logic.{_⊎_, inl, inr}
 use mathlib.Core.Path.{_≡_, refl, sym, ap, _∙_}
 use mathlib.Core.Bool.{Bool, true, false, cond}
@@ -38,7 +38,7 @@ module _ (names more : List (List ℕ)) (name : List ℕ) (h : Has names name) w
   unfolding Has offsetOf
   offset-stays = ap foundAt (first-stays name 0 (h .0) names more (h .1) ∙ sym (h .1))
 
--- ---- one name more
+-- ---- one more name
 
 module _ (names : List (List ℕ)) (name : List ℕ) where
   pub with-grows : (more : List (List ℕ)) × (withName names name ≡ names ++ more)
@@ -77,7 +77,7 @@ names-append names (begins name ∷ es) fs = names-append names es fs
 names-append names (has (name ≔ value) ∷ es) fs = names-append (withName names name) es fs
 names-append names (ends ∷ es) fs = names-append names es fs
 
--- one event more at the end
+-- one more event at the end
 pub names-snoc : (es : List Event) (e : Event) → namesOf (es ++ (e ∷ [])) ≡ namesFrom (namesOf es) (e ∷ [])
 unfolding namesOf
 names-snoc es e = names-append [] es (e ∷ [])
@@ -120,26 +120,26 @@ names-plain (has (name ≔ value) ∷ es) a p = names-plain es (a .1) (with-plai
 names-plain (ends ∷ es) a p = names-plain es (a .1) p
 
 module _ {names : List (List ℕ)} (p : PlainNames names) where
-  -- a name that is found stands in the strings, at its offset
+  -- a name that is found is in the strings, at its offset
   pub has-stands : (name : List ℕ) → Has names name → Stands (joined names) name (offsetOf names name)
   unfolding Has offsetOf foundAt findString
   has-stands name h =
       let f : firstFrom 0 (entries (joined names)) name ≡ At (h .0) = ap (λ (l : List (List ℕ)). firstFrom 0 l name) (entries-joined p) ∙ h .1 in
       rw (h .1) (found-stands (joined names) name (h .0) f)
 
--- the strings of events fall into their names again
+-- the strings of events split into their names again
 pub names-entries : (es : List Event) → AllPlain es → entries (joined (namesOf es)) ≡ namesOf es
 unfolding namesOf
 names-entries es a = entries-joined (names-plain es a no-entry)
 
 -- ---- each name once
 
--- no name is there twice
+-- no name occurs twice
 unfoldable pub Distinct : List (List ℕ) → Type 0
 Distinct [] = Unit {0}
 Distinct (name ∷ names) = (List·Memᴰ name names → ⊥) × Distinct names
 
--- a name that is one of names is found
+-- a name that occurs among names is found
 pub mem-found : {name : List ℕ} {names : List (List ℕ)} (k : ℕ) → List·Memᴰ name names → (i : ℕ) × (firstFrom k names name ≡ At i)
 unfolding firstFrom
 mem-found k (List·Memᴰ·head {x = e} q) = (k, simp (eq-same e _ (sym q)))
@@ -173,7 +173,7 @@ names-distinct names (begins name ∷ es) d = names-distinct names es d
 names-distinct names (has (name ≔ value) ∷ es) d = names-distinct (withName names name) es (with-distinct names name d)
 names-distinct names (ends ∷ es) d = names-distinct names es d
 
--- the names of events are there once each
+-- each name of events occurs once
 pub names-once : (es : List Event) → Distinct (namesOf es)
 unfolding namesOf Distinct
 names-once es = names-distinct [] es tt

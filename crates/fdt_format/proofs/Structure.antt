@@ -57,7 +57,7 @@ structure-more es fs =
     ∙ ap (λ (l : List ℕ). l ++ structureBytes (namesFrom [] (es ++ fs)) fs)
     (ap (λ (ns : List (List ℕ)). structureBytes ns es) n ∙ structure-stays (namesFrom [] es) (g .0) es (names-have [] es))
 
--- one event more at the end
+-- one more event at the end
 pub structure-snoc : (es : List Event) (e : Event) → structureBytes (namesOf (es ++ (e ∷ []))) (es ++ (e ∷ [])) ≡ structureBytes (namesOf es) es ++ eventBytes (namesOf (es ++ (e ∷ []))) e
 unfolding structureBytes
 structure-snoc es e =

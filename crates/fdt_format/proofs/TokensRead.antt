@@ -1,4 +1,4 @@
--- The bytes of an event are read back: its entry stands at its state, the entry tells it, and the state after it is known.
+-- The bytes of an event are read back: the step at its state is its entry, the entry means the event, and the state after it is known.
 use mathlib.Core.Path.{_≡_, refl, ap, _∙_}
 use mathlib.Core.Bool.{Bool, true, false}
 use mathlib.Core.List.{List, [], _∷_}
@@ -32,7 +32,7 @@ depthAfter depth (begins name) = depth + 1
 depthAfter depth (has p) = depth
 depthAfter depth ends = depth - 1
 
--- whether a property may stand after it
+-- whether a property may come after it
 unfoldable pub takesAfter : Event → Bool
 takesAfter (begins name) = true
 takesAfter (has p) = true
@@ -74,7 +74,7 @@ module _ (a : Areas) (names : List (List ℕ)) where
 
 -- ---- a token is read as its event
 
--- at a state an event is read: its entry stands there, and tells it
+-- an event is read at a state: the step is its entry, and the entry means the event
 pub record Read (b : List ℕ) (a : Areas) (names : List (List ℕ)) (s : State) (e : Event) : Type 0 where
   pub step : stepAt b a s ≡ step.Entry (entryOf a names s e) (after s e)
   pub told : eventAt b (entryOf a names s e) ≡ e
@@ -83,7 +83,7 @@ pub record Read (b : List ℕ) (a : Areas) (names : List (List ℕ)) (s : State)
 same-place : {t : Entry} {depth : ℕ} {room : Bool} {i j : ℕ} → i ≡ j → step.Entry t (record { at = i; depth = depth; «takes_property» = room }) ≡ step.Entry t (record { at = j; depth = depth; «takes_property» = room })
 same-place e = rw e
 
--- a name stands in the strings of a blob
+-- a name is in the strings of a blob
 pub record Named (b : List ℕ) (a : Areas) (names : List (List ℕ)) (name : List ℕ) : Type 0 where
   pub plain : NoZero name
   pub held : BytesAt b (a .strings + offsetOf names name) (entry name)

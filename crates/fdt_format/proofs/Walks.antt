@@ -24,7 +24,7 @@ stepped-moves b a s (step.Entry t s') h = h .0
 stepped-moves b a s step.Final h = tt
 stepped-moves b a s (step.Bad r) h = tt
 
--- what follows a token is the same for two walks that agree past it
+-- what follows a token is the same for two walks that agree after it
 follow-same : (a : Areas) (s : State) (x : Step) → Moves a s x → (g h : State → Walk) → ((s' : State) → Moved a s s' → g s' ≡ h s') → follow x g ≡ follow x h
 unfolding Moves
 follow-same a s (step.Entry t s') m g h same = ap (more t) (same s' m)
@@ -41,7 +41,7 @@ module _ (a : Areas) (token : State → Step) (moves : (s : State) → s .at ≤
       follow-same a s (token s) (moves s w) (steps token k) (steps token l)
       λ s' m. fuel k l s' (m .within) (omega (arith, m .on, m .within)) (omega (arith, m .on, m .within))
 
-  -- tokens to the end are the first and those to the end from it on
+  -- all tokens are the first and all tokens after it
   pub first-step : (s : State) → s .at ≤ a .«structure_end»
       → steps token (suc (a .«structure_end» - s .at)) s ≡ follow (token s) (λ (s' : State). steps token (suc (a .«structure_end» - s' .at)) s')
   unfolding steps
@@ -49,7 +49,7 @@ module _ (a : Areas) (token : State → Step) (moves : (s : State) → s .at ≤
       follow-same a s (token s) (moves s w) (steps token (a .«structure_end» - s .at)) (λ (s' : State). steps token (suc (a .«structure_end» - s' .at)) s')
       λ s' m. fuel (a .«structure_end» - s .at) (suc (a .«structure_end» - s' .at)) s' (m .within) (omega (arith, m .on, m .within)) (omega arith)
 
--- a walk is its first token and the walk on from it
+-- a walk is its first token and the walk after it
 pub walk-step : (b : List ℕ) (a : Areas) (s : State) → s .at ≤ a .«structure_end» → walk b a s ≡ follow (stepAt b a s) (walk b a)
 unfolding walk
 walk-step b a s w = first-step a (stepAt b a) (λ s' _. stepped-moves b a s' (stepAt b a s') (step-stepped b a s')) s w

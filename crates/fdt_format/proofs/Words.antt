@@ -9,7 +9,7 @@ use lib.Seq.{take-at, drop-at}
 use Rattle.fdt_bytes.specs.BigEndian.{bigEndian, fromBigEndian, numberAt, cellBytes}
 use Rattle.fdt_bytes.proofs.BigEndian.{length-bigEndian, round-trip}
 
--- what stands at a place of bytes: these, and then others
+-- these bytes are at a place of b
 pub record BytesAt (b : List ℕ) (at : ℕ) (bs : List ℕ) : Type 0 where
   pub before : List ℕ
   pub behind : List ℕ
@@ -26,7 +26,7 @@ module _ {b : List ℕ} {at : ℕ} {bs : List ℕ} (h : BytesAt b at bs) where
   pub bytes-take : (n : ℕ) → length bs ≡ n → take n (drop at b) ≡ bs
   bytes-take n e = ap (take n) bytes-drop ∙ take-at bs (h .behind) n e
 
--- the first part of what stands there, and the second
+-- the first part of them, and the second
 module _ {b : List ℕ} {at : ℕ} (bs cs : List ℕ) (h : BytesAt b at (bs ++ cs)) where
   pub bytes-left : BytesAt b at bs
   bytes-left = record { before = h .before; behind = cs ++ h .behind; split = h .split ∙ simp append-assoc; place = h .place }

@@ -1,4 +1,4 @@
--- A written structure is read back: the walk over the bytes of events finds an entry for each, and the entries tell them.
+-- A written structure is read back: the walk over the bytes of events finds an entry for each, and the entries mean the events.
 use mathlib.Core.Path.{_≡_, refl, sym, ap, subst, _∙_}
 use mathlib.Core.Bool.{Bool, true, false, true≢false}
 use mathlib.Core.List.{List, [], _∷_, _++_, append-assoc, map}
@@ -25,7 +25,7 @@ use Rattle.fdt_format.proofs.TokensRead.{depthAfter, takesAfter, after,
 use Rattle.fdt_format.proofs.Walks.{walk-step}
 use Rattle.fdt_format.proofs.Words.{BytesAt, bytes-left, bytes-right}
 
--- names that are found stand in the strings, where a blob holds them
+-- names that are found are in the strings of a blob that holds them
 module _ (b : List ℕ) (a : Areas) (names : List (List ℕ)) (p : PlainNames names) (h : BytesAt b (a .strings) (joined names)) (l : a .strings + length (joined names) ≡ a .«strings_end») where
   named : (name : List ℕ) → Has names name → Named b a names name
   unfolding entry
@@ -39,13 +39,13 @@ module _ (b : List ℕ) (a : Areas) (names : List (List ℕ)) (p : PlainNames na
         within = omega (arith, stands-fits w, length-entry name);
       }
 
--- events stand at a state: they and the final word are there, and the structure ends after them
+-- events are at a state: their bytes and the final word are there, and the structure ends after them
 pub record Stood (b : List ℕ) (a : Areas) (names : List (List ℕ)) (strings : List ℕ) (s : State) (es : List Event) : Type 0 where
   pub multiple : s .at % 4 ≡ 0
   pub ended : s .at + eventsSize es + 4 ≡ a .«structure_end»
   pub held : BytesAt b (s .at) (structureBytes names es ++ finalBytes strings)
 
--- a walk from a state finds the entries of events, which tell them
+-- a walk from a state finds the entries of events, and the entries mean the events
 pub record Walked (b : List ℕ) (a : Areas) (names : List (List ℕ)) (s : State) (es : List Event) : Type 0 where
   pub walked : walk b a s ≡ good (entriesOf a names s es)
   pub told : map (eventAt b) (entriesOf a names s es) ≡ es
@@ -79,7 +79,7 @@ module _ {b : List ℕ} {a : Areas} {names : List (List ℕ)} {strings : List �
     told = rw (r .told, w .told);
   }
 
--- Where a blob holds the strings of plain names, the walk over the events that use them finds each.
+-- If a blob holds the strings of plain names, the walk over the events that use them finds each.
 module _ (b : List ℕ) (a : Areas) (names : List (List ℕ)) (strings : List ℕ) (small : length b < 2 ^ 32) (every : (name : List ℕ) → Has names name → Named b a names name) where
   pub walk-written :
       (es : List Event) (depth : ℕ) (ended : Bool) (s : State) → Accepted depth ended es → s .depth ≡ depth → (ended ≡ false → 0 < depth → s .«takes_property» ≡ true) →
@@ -133,7 +133,7 @@ module _ (b : List ℕ) (a : Areas) (es : List Event) (l : Laid b a es) where
         let stood : Stood b a names (joined names) (start a) es = record { multiple = l .multiple; ended = l .structure-ends; held = l .held } in
         walk-written b a names (joined names) (l .small) every es 0 false (start a) c refl (λ _ z. absurd (omega arith)) p (names-have [] es) stood
 
-    -- the nodes that are read are those that the events tell
+    -- the nodes that are read are those of the events
     pub nodes-read : readNodes b a ≡ nodesOf es
     unfolding readNodes walkNodes
     nodes-read = ap (walkNodes b) (laid-walked .walked) ∙ ap nodesOf (laid-walked .told)

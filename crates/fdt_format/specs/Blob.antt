@@ -11,7 +11,7 @@ use Rattle.fdt_format.specs.Events.{Event, begins, has, ends, events}
 use Rattle.fdt_header.specs.Header.{structureStart, reservationBytes, headerBytes}
 use Rattle.fdt_format.specs.Tokens.{beginBytes, propertyBytes, propertySize, endBytes, finalBytes}
 
--- names as they are where one was found among them, otherwise with it at the end
+-- names with one more at the end, unless it was found among them
 unfoldable pub orAtEnd : Found → List (List ℕ) → List ℕ → List (List ℕ)
 orAtEnd (At offset) names name = names
 orAtEnd Nothing names name = names ++ (name ∷ [])
@@ -20,7 +20,7 @@ orAtEnd Nothing names name = names ++ (name ∷ [])
 unfoldable pub withName : List (List ℕ) → List ℕ → List (List ℕ)
 withName names name = orAtEnd (firstFrom 0 names name) names name
 
--- names, and then those of properties in events: each once, in order of first use
+-- names, and then the names of properties in events: each once, in order of first use
 unfoldable pub namesFrom : List (List ℕ) → List Event → List (List ℕ)
 namesFrom names [] = names
 namesFrom names (begins name ∷ es) = namesFrom names es
@@ -31,7 +31,7 @@ namesFrom names (ends ∷ es) = namesFrom names es
 unfoldable pub namesOf : List Event → List (List ℕ)
 namesOf es = namesFrom [] es
 
--- where a name stands; 0 where it does not
+-- the offset that was found, or 0
 unfoldable pub foundAt : Found → ℕ
 foundAt (At offset) = offset
 foundAt Nothing = 0
@@ -40,7 +40,7 @@ foundAt Nothing = 0
 unfoldable pub offsetOf : List (List ℕ) → List ℕ → ℕ
 offsetOf names name = foundAt (firstFrom 0 names name)
 
--- the bytes of an event, with the names of the strings
+-- the bytes of an event; the names are those of the strings area
 unfoldable pub eventBytes : List (List ℕ) → Event → List ℕ
 eventBytes names (begins name) = beginBytes name
 eventBytes names (has (name ≔ value)) = propertyBytes (offsetOf names name) value
@@ -85,17 +85,17 @@ Plain (begins name) = NoZero name
 Plain (has (name ≔ value)) = NoZero name
 Plain ends = Unit {0}
 
--- the name of every event
+-- no name of any event has one
 unfoldable pub AllPlain : List Event → Type 0
 AllPlain [] = Unit {0}
 AllPlain (e ∷ es) = Plain e × AllPlain es
 
--- reservations of 64-bit numbers, none of them both 0
+-- reservations of 64-bit numbers, none with both numbers 0
 unfoldable pub AllTold : List Reservation → Type 0
 AllTold [] = Unit {0}
 AllTold (reserved address size ∷ rs) = (address < 2 ^ 64) × (size < 2 ^ 64) × (0 < address + size) × AllTold rs
 
--- what the format can hold: such names and reservations, a boot number and a size of 32 bits
+-- what the format can hold: such names and reservations, and a boot number and a total size of 32 bits
 pub record WellFormed (d : Description) : Type 0 where
   pub names : AllPlain (events (d .nodes) [])
   pub told : AllTold (d .reservations)

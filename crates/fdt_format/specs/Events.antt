@@ -1,4 +1,4 @@
--- Nodes as the events that a structure tells one after the other, and back.
+-- Nodes as a list of events, in the order in which a structure has them, and back.
 use mathlib.Core.List.{List, [], _∷_}
 use mathlib.Core.Option.{Option, none, some}
 use Prim.Native.Nat.{ℕ}
@@ -21,13 +21,13 @@ events no-more others = others
 events (node name properties children later) others =
     begins name ∷ propertyEvents properties (events children (ends ∷ events later others))
 
--- what the last events of a structure tell: the properties and then the nodes of the node that is open before them,
+-- what the last events of a structure mean: the properties and nodes that they add to the node open before them,
 -- and for each node around it the nodes after it; or that they are out of place
 pub data Told : Type 0 where
   misplaced : Told
   told : List Property → Nodes → List Nodes → Told
 
--- one event in front of them
+-- with one more event in front
 unfoldable pub inFront : Event → Told → Told
 inFront e misplaced = misplaced
 inFront (has p) (told ps nodes around) = told (p ∷ ps) nodes around
@@ -36,18 +36,18 @@ inFront ends (told (p ∷ ps) nodes around) = misplaced
 inFront (begins name) (told ps nodes []) = misplaced
 inFront (begins name) (told ps nodes (later ∷ around)) = told [] (node name ps nodes later) around
 
--- what events tell
+-- what events mean
 unfoldable pub tell : List Event → Told
 tell [] = told [] no-more []
 tell (e ∷ es) = inFront e (tell es)
 
--- the nodes, where every node has ended and no property stands outside
+-- the nodes, if every node has ended and no property is outside a node
 unfoldable pub whole : Told → Option Nodes
 whole misplaced = none
 whole (told [] nodes []) = some nodes
 whole (told [] nodes (later ∷ around)) = none
 whole (told (p ∷ ps) nodes around) = none
 
--- the nodes that events tell: those whose events they are (`nodes-exactly`)
+-- the nodes of events: those whose events they are (`nodes-exactly`)
 unfoldable pub nodesOf : List Event → Option Nodes
 nodesOf es = whole (tell es)

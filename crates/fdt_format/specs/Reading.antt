@@ -1,4 +1,4 @@
--- How a blob is read (document 01; Devicetree Specification v0.4, chapter 5): from any bytes to what they describe, or nothing.
+-- How a blob is read (document 01; Devicetree Specification v0.4, chapter 5): from any bytes to a description, or none.
 use mathlib.Core.Bool.{Bool, _&&_, cond}
 use mathlib.Core.List.{List, [], _∷_, map}
 use mathlib.Core.Option.{Option, none, some}
@@ -35,7 +35,7 @@ goodWords b =
     && eqb (wordAt b 24) lastCompatible
 
 -- reservations start at a multiple of 8 and the structure at a multiple of 4; structure and strings lie inside a blob of
--- that length (the reservations must hold their last pair inside)
+-- this length (the all-zero pair must do so too, see `readReservations`)
 unfoldable pub goodAreas : Areas → ℕ → Bool
 goodAreas a n =
     eqb (a .reservations % 8) 0
@@ -52,7 +52,7 @@ unfoldable pub reservation : ℕ → ℕ → Option (List Reservation) → Optio
 reservation address size none = none
 reservation address size (some rs) = some (reserved address size ∷ rs)
 
--- the reservations from a place on, to the first all-zero pair, which is one of k pairs
+-- the reservations from a place on, up to the first all-zero pair, which must be one of the next k pairs
 unfoldable pub reservationsAt : List ℕ → ℕ → ℕ → Option (List Reservation)
 reservationsAt b zero at = none
 reservationsAt b (suc k) at =
@@ -68,7 +68,7 @@ untilZero (x ∷ xs) = cond (eqb x 0) [] (x ∷ untilZero xs)
 unfoldable pub nameAt : List ℕ → ℕ → List ℕ
 nameAt b at = untilZero (drop at b)
 
--- what an entry tells: a value stands after its property's three words
+-- the event of an entry; a value comes after the three words of its property
 unfoldable pub eventAt : List ℕ → Entry → Event
 eventAt b t =
     cond (eqb (t .token) beginToken) (begins (nameAt b (t .name)))
@@ -80,7 +80,7 @@ unfoldable pub walkNodes : List ℕ → Walk → Option Nodes
 walkNodes b (bad r) = none
 walkNodes b (good ts) = nodesOf (map (eventAt b) ts)
 
--- a description, where its reservations and its nodes were read
+-- a description, if its reservations and its nodes were read
 unfoldable pub described : ℕ → Option (List Reservation) → Option Nodes → Option Description
 described boot none nodes = none
 described boot (some rs) none = none

@@ -14,12 +14,12 @@ use Rattle.fdt_format.specs.declared.Step.the-variants as step
 use Rattle.fdt_format.specs.declared.Unreadable.the-variants.{Structure, NameOffset}
 use Rattle.fdt_format.specs.Tokens.{beginToken, endToken, propertyToken, propertySize, finalToken}
 
--- the first place from `at` on that holds a 0, or the place k further
+-- the first of the k places from `at` on that holds a 0; without one, the place after them
 unfoldable pub zeroFrom : List ℕ → ℕ → ℕ → ℕ
 zeroFrom b zero at = at
 zeroFrom b (suc k) at = cond (eqb (getD b at 0) 0) at (zeroFrom b k (suc at))
 
--- word 1: the name runs to the next 0; it and the padding end inside the structure
+-- word 1: the name runs to the next 0; name and padding end inside the structure
 unfoldable pub beginAt : List ℕ → Areas → State → Step
 beginAt b a s =
     let end : ℕ = zeroFrom b (a .«structure_end» - (s .at + 4)) (s .at + 4) in
@@ -29,14 +29,14 @@ beginAt b a s =
     (record { token = beginToken; place = s .at; name = s .at + 4; size = 0 })
     (record { at = roundUp 4 (end + 1); depth = s .depth + 1; «takes_property» = true })))
 
--- a whole property stands at a place: word 3, value length, name offset, value and padding, which end at `end` or before
+-- a whole property is at a place: word 3, value length, name offset, value and padding, none of it past `end`
 unfoldable pub wholeAt : List ℕ → ℕ → ℕ → Bool
 wholeAt b end at =
     leb 12 (end - at)
     && eqb (wordAt b at) propertyToken
     && leb (propertySize (wordAt b (at + 4))) (end - at)
 
--- how many bytes it takes; 0 where no whole property stands
+-- how many bytes it takes, or 0 if no whole property is there
 unfoldable pub sizeAt : List ℕ → ℕ → ℕ → ℕ
 sizeAt b end at = cond (wholeAt b end at) (propertySize (wordAt b (at + 4))) 0
 
@@ -67,7 +67,7 @@ finalAt a s =
     (cond (eqb (s .at + 4) (a .«structure_end»)) step.Final (step.Bad Structure))
     (step.Bad Structure)
 
--- the token at a state: 1, 2, 3 (before the node's children) or 9, inside the structure
+-- the token at a state: word 1, 2, 3 (before the node's children) or 9, inside the structure
 unfoldable pub stepAt : List ℕ → Areas → State → Step
 stepAt b a s =
     cond (ltb (a .«structure_end» - s .at) 4) (step.Bad Structure)

@@ -21,18 +21,18 @@ abbrev pub more : Entry → Walk → Walk
 more t (bad r) = bad r
 more t (good ts) = good (t ∷ ts)
 
--- a token, and the walk on from it
+-- a token, and the walk after it
 abbrev pub follow : Step → (State → Walk) → Walk
 follow (step.Entry t s) on = more t (on s)
 follow step.Final on = good []
 follow (step.Bad r) on = bad r
 
--- at most k tokens, by what stands at each state
+-- at most k tokens; `token` reads the one at a state
 unfoldable pub steps : (State → Step) → ℕ → State → Walk
 steps token zero s = bad Structure
 steps token (suc k) s = follow (token s) (steps token k)
 
--- all tokens: each takes a byte at least, so that this bound refuses nothing (`walk-step`)
+-- all tokens: each takes at least one byte, so this bound refuses nothing (`walk-step`)
 unfoldable pub walk : List ℕ → Areas → State → Walk
 walk b a s = steps (stepAt b a) (suc (a .«structure_end» - s .at)) s
 

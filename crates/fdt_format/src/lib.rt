@@ -1,4 +1,4 @@
-// What a reader of blobs works with: token words, areas, states, entries and refusals. specs/ defines what a blob describes and how it is read.
+// Types that readers of blobs share. specs/ defines what a blob describes and how it is read.
 ghost use mathlib.Core.Path.{_≡_};
 ghost use Rattle.fdt_format.specs.Refusals.{numberOf};
 
@@ -24,9 +24,9 @@ pub struct Areas {
     pub boot: u32,
 }
 
-// Where a reading is.
+// How far a reading has come.
 pub struct State {
-    // the next place of the blob
+    // the place of the next token
     pub at: usize,
     // how many nodes are open
     pub depth: usize,
@@ -63,7 +63,7 @@ pub fn number(refusal: Unreadable) -> u32
     }
 }
 
-// What a state has: an entry and the state after it, the final word, or a refusal.
+// The token at a state: an entry with the state after it, the final word, or a refusal.
 pub enum Step {
     Entry(Entry, State),
     Final,

@@ -15,12 +15,12 @@ use Rattle.fdt_read_header.specs.declared.Reservations.{Reservations}
 use Rattle.fdt_read_header.specs.declared.Reservations.the-variants.{Count, Refused}
 use Rattle.fdt_read_header.specs.Counted.{counted}
 
--- the same behind n reservations
+-- the same after n reservations
 unfoldable pub countedFrom : ℕ → Option (List Reservation) → Reservations
 countedFrom n none = Refused unreadable.Reservations
 countedFrom n (some rs) = Count (n + length rs)
 
--- behind none it is the same
+-- after none it is the same
 pub from-0 : (rs : Option (List Reservation)) → counted rs ≡ countedFrom 0 rs
 unfolding counted countedFrom
 from-0 none = refl
@@ -42,12 +42,12 @@ module _ (b : List ℕ) (n left at : ℕ) where
   unfolding reservationsAt
   unrolled more = let e : left ≡ suc (left - 1) = omega arith in ap (λ (m : ℕ). reservationsAt b m at) e
 
-  -- the all-zero pair stands here
+  -- here is the all-zero pair
   pub ends-here : 0 < left → zeroPair b at ≡ true → countedFrom n (reservationsAt b left at) ≡ Count n
   unfolding countedFrom
   ends-here more z = rw (unrolled more, z) (ap Count (omega arith))
 
-  -- a reservation stands here
+  -- here is a reservation
   pub goes-on : 0 < left → zeroPair b at ≡ false → countedFrom n (reservationsAt b left at) ≡ countedFrom (n + 1) (reservationsAt b (left - 1) (at + 16))
   goes-on more z = rw (unrolled more, z) (one-more _ _ n _)
 

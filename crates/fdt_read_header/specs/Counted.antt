@@ -1,4 +1,4 @@
--- What is answered for the reservations that a reading finds: how many there are, or refusal 22.
+-- The answer on a blob's reservations: how many there are, or refusal 22.
 use mathlib.Core.List.{List, [], _∷_}
 use mathlib.Core.Option.{Option, none, some}
 use Prim.Native.Nat.{ℕ}
@@ -9,7 +9,7 @@ use Rattle.fdt_format.specs.Refusals.{numberOf as refusalNumber}
 use Rattle.fdt_read_header.specs.declared.Reservations.{Reservations}
 use Rattle.fdt_read_header.specs.declared.Reservations.the-variants.{Count, Refused}
 
--- how many, or that no all-zero pair ends them
+-- their count, or the refusal if no all-zero pair ends them
 unfoldable pub counted : Option (List Reservation) → Reservations
 counted none = Refused unreadable.Reservations
 counted (some rs) = Count (length rs)

@@ -1,4 +1,4 @@
-// The header of a lent blob, the areas that it names, and its reservations.
+// Reads the header of a lent blob and the areas that it names, and counts the reservations.
 use fdt_bytes::read_u32;
 use fdt_bytes::read_u64;
 use fdt_format::Areas;
@@ -14,13 +14,13 @@ ghost use Rattle.fdt_bytes.specs.BigEndian.{wordAt, wideAt};
 ghost use Rattle.fdt_format.specs.Reading.{areasOf, goodWords, goodAreas, reservationsAt, readReservations};
 ghost use Rattle.fdt_read_header.specs.Counted.{counted};
 
-// How many reservations come before the all-zero pair, or a refusal where no such pair is inside the blob.
+// How many reservations come before the all-zero pair, or refusal 22 if no such pair is inside the blob.
 pub enum Reservations {
     Count(usize),
     Refused(Unreadable),
 }
 
-// Whether a blob's length is its total size and magic and versions match.
+// Whether a blob's length is its total size, and magic and versions match.
 pub fn good_words(blob: &[u8]) -> bool
     ensures { λ r. ⌜ r ≡ goodWords (now (blob .entry)) ⌝ }
 {
@@ -64,7 +64,7 @@ pub fn areas_of(blob: &[u8]) -> Areas
     }
 }
 
-// Whether the areas are aligned, and structure and strings lie inside a blob of that length.
+// Whether the areas are aligned, and structure and strings lie inside a blob of this length.
 pub fn good_areas(a: Areas, length: usize) -> bool
     ensures { λ r. ⌜ r ≡ goodAreas a length ⌝ }
 {
@@ -91,7 +91,7 @@ fn zero_pair(blob: &[u8], at: usize) -> bool
     read_u64(blob, at + 8) == 0
 }
 
-// How many reservations begin at a place before the all-zero pair, which must be one of `most` pairs.
+// Counts the reservations from a place on, up to the all-zero pair, which must be one of the next `most` pairs.
 fn pairs_from(blob: &[u8], from: usize, most: usize) -> Reservations
     requires { ⌜ from + 16 * most ≤ length (now blob) ⌝ }
     ensures { λ r. ⌜ r ≡ counted (reservationsAt (now (blob .entry)) most from) ⌝ }
@@ -110,7 +110,7 @@ fn pairs_from(blob: &[u8], from: usize, most: usize) -> Reservations
     Reservations::Refused(Unreadable::Reservations)
 }
 
-// How many reservations a blob has.
+// Counts the reservations of a blob.
 pub fn reservations_of(blob: &[u8], a: Areas) -> Reservations
     ensures { λ r. ⌜ r ≡ counted (readReservations (now (blob .entry)) a) ⌝ }
 {

@@ -1,4 +1,4 @@
--- The first 0 from a place on is what the kit's search finds: both go byte by byte.
+-- `zeroFrom` is what the kit's search finds: both go byte by byte.
 use mathlib.Core.Path.{_≡_, sym, ap, subst, _∙_}
 use mathlib.Core.Bool.{Bool, true, false, cond}
 use mathlib.Core.List.{List}

@@ -1,4 +1,4 @@
-// One token of a lent blob: what stands at a state of the reading.
+// Reads one token of a lent blob: from a state of the reading to an entry and the next state, the final word, or a refusal.
 use fdt_bytes::read_u32;
 use fdt_bytes::round_up;
 use fdt_format::Areas;
@@ -16,7 +16,7 @@ ghost use lib.ListN.{length};
 ghost use Rattle.fdt_format.specs.Step.{zeroFrom, sizeAt, beginAt, propertyAt, endAt, finalAt, stepAt};
 ghost use Rattle.fdt_read_token.specs.Inside.{Inside, Fits};
 
-// The first place from `at` on and before `end` that holds a 0; otherwise the later of the two.
+// The first place from `at` on and before `end` that holds a 0; without one, the greater of `at` and `end`.
 pub fn zero_from(blob: &[u8], at: usize, end: usize) -> usize
     requires { ⌜ end ≤ length (now blob) ⌝ }
     ensures { λ r. ⌜ r ≡ zeroFrom (now (blob .entry)) (end - at) at ⌝ }
@@ -27,7 +27,7 @@ pub fn zero_from(blob: &[u8], at: usize, end: usize) -> usize
     bytes::scan::find(blob, at, end, 0)
 }
 
-// A node that begins at a state: its name and the padding end inside the structure.
+// Reads the beginning of a node. Its name and padding must end inside the structure.
 fn begin_at(blob: &[u8], a: Areas, s: State) -> Step
     requires { ⌜ (s .at + 4 ≤ a .«structure_end») × (Inside (now blob) a × Fits a s) ⌝ }
     ensures { λ r. ⌜ r ≡ beginAt (now (blob .entry)) a s ⌝ }
@@ -57,7 +57,7 @@ fn begin_at(blob: &[u8], a: Areas, s: State) -> Step
     )
 }
 
-// How many bytes the whole property at a place takes, if it ends at `end` or before; 0 where no whole property stands.
+// How many bytes the property at a place takes, or 0 if no whole property is there before `end`.
 pub fn property_size(blob: &[u8], at: usize, end: usize) -> usize
     requires { ⌜ (at ≤ end) × (end ≤ length (now blob)) ⌝ }
     ensures { λ r. ⌜ r ≡ sizeAt (now (blob .entry)) end at ⌝ }
@@ -76,7 +76,7 @@ pub fn property_size(blob: &[u8], at: usize, end: usize) -> usize
     size
 }
 
-// A property at a state: it is whole inside the structure, and its name offset meets a 0 inside the strings.
+// Reads a property. It must be whole inside the structure, and its name offset must meet a 0 inside the strings.
 fn property_at(blob: &[u8], a: Areas, s: State) -> Step
     requires { ⌜ Inside (now blob) a × Fits a s ⌝ }
     ensures { λ r. ⌜ r ≡ propertyAt (now (blob .entry)) a s ⌝ }
@@ -108,7 +108,7 @@ fn property_at(blob: &[u8], a: Areas, s: State) -> Step
     )
 }
 
-// A node that ends at a state.
+// Reads the end of a node. A node must be open.
 fn end_at(s: State) -> Step
     requires { ⌜ s .at < 2 ^ 32 ⌝ }
     ensures { λ r. ⌜ r ≡ endAt s ⌝ }
@@ -132,7 +132,7 @@ fn end_at(s: State) -> Step
     )
 }
 
-// The final word at a state.
+// Reads the final word. No node may be open, and the structure must end here.
 fn final_at(a: Areas, s: State) -> Step
     requires { ⌜ s .at < 2 ^ 32 ⌝ }
     ensures { λ r. ⌜ r ≡ finalAt a s ⌝ }
@@ -146,7 +146,7 @@ fn final_at(a: Areas, s: State) -> Step
     Step::Final
 }
 
-// What stands at a state.
+// Reads the token at a state.
 pub fn step_at(blob: &[u8], a: Areas, s: State) -> Step
     requires { ⌜ Inside (now blob) a × Fits a s ⌝ }
     ensures { λ r. ⌜ r ≡ stepAt (now (blob .entry)) a s ⌝ }

@@ -1,4 +1,4 @@
--- `align` meets its contract: the zeros are as many as `padding_of` answers.
+-- `align` meets its contract: `padding_of` says how many zeros.
 use mathlib.Core.Path.{ap, _∙_}
 use Prim.Native.Nat.{ℕ}
 use Rattle.fdt_bytes.specs.Padding.{zeros}

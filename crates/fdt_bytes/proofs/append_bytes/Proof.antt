@@ -1,4 +1,4 @@
--- `append_bytes` meets its contract: what `copy` ensures is the bytes over the front.
+-- `append_bytes` meets its contract: `copy` overwrites the front.
 use mathlib.Core.Path.{ap, _∙_}
 use mathlib.Core.List.{List, _++_}
 use Prim.Native.Nat.{ℕ}

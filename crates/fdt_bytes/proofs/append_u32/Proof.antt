@@ -1,4 +1,4 @@
--- `append_u32` meets its contract: the stores are those of its four bytes, one after the other.
+-- `append_u32` meets its contract: it stores the four bytes one after the other.
 use lib.ListN.{length-set}
 use Rattle.fdt_bytes.specs.BigEndian.{bigEndian}
 use Rattle.fdt_bytes.proofs.Splice.{sets-over}

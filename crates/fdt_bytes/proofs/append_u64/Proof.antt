@@ -1,4 +1,4 @@
--- `append_u64` meets its contract: two halves, one after the other, are the number.
+-- `append_u64` meets its contract: the two halves, one after the other, are the number (`in-two`).
 use mathlib.Core.Path.{_≡_, sym, ap, _∙_}
 use mathlib.Core.List.{List, _++_}
 use Prim.Native.Nat.{ℕ, _+_, _/_, _%_, _≤_}

@@ -1,4 +1,4 @@
--- `bytes_at` meets its contract: the part that was lent comes back with the bytes over its front.
+-- `bytes_at` meets its contract: the front of the lent part is overwritten (`lent`).
 use native.Mathlib.Omega.{arith}
 use borrow.Author.Needs.{needs}
 use Rattle.fdt_bytes.proofs.Splice.{lent}

@@ -1,4 +1,4 @@
--- `pad` meets its contract: i zeros have been written, and the rest is as it was.
+-- `pad` meets its contract: after i turns the first i bytes are zeros, and the others are as they were.
 use mathlib.Core.Path.{_≡_, refl, sym, ap, _∙_}
 use mathlib.Core.List.{List, _++_}
 use Prim.Native.Nat.{ℕ, _≤_, _-_, zero-le}

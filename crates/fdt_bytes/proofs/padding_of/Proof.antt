@@ -1,4 +1,4 @@
--- `padding_of` meets its contract: none at a multiple, otherwise what is missing to the next.
+-- `padding_of` meets its contract: a multiple needs no padding, any other length what is missing to the next.
 use mathlib.Core.Path.{sym}
 use native.Mathlib.Nat.{mod-lt}
 use Rattle.fdt_bytes.proofs.Padding.{padding-none, padding-some}

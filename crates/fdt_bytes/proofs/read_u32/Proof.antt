@@ -1,4 +1,4 @@
--- `read_u32` sums the four bytes of the word, which `word-bytes` says.
+-- `read_u32` meets its contract: it sums the four bytes of the word (`word-bytes`).
 use mathlib.Core.Path.{sym}
 use borrow.Author.Needs.{needs}
 use Rattle.fdt_bytes.proofs.BigEndian.{word-bytes}

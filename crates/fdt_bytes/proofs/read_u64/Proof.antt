@@ -1,4 +1,4 @@
--- `read_u64` puts two words together, which `two-words` says.
+-- `read_u64` meets its contract: it joins two words (`two-words`).
 use mathlib.Core.Path.{sym}
 use borrow.Author.Needs.{needs}
 use Rattle.fdt_bytes.proofs.BigEndian.{two-words}

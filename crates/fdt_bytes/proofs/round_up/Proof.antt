@@ -1,4 +1,4 @@
--- `round_up` adds the padding, which is less than the alignment.
+-- `round_up` meets its contract: it adds the padding, which is less than the alignment.
 use native.Mathlib.Omega.{arith}
 use borrow.Author.Needs.{needs}
 use Rattle.fdt_bytes.specs.Padding.{roundUp}

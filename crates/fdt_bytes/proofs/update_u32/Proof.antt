@@ -1,4 +1,4 @@
--- `update_u32` meets its contract: the part that was lent comes back with the number over its front.
+-- `update_u32` meets its contract: the front of the lent part is overwritten (`lent`).
 use native.Mathlib.Omega.{arith}
 use borrow.Author.Needs.{needs}
 use Rattle.fdt_bytes.specs.BigEndian.{bigEndian}

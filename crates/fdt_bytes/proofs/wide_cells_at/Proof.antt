@@ -1,4 +1,4 @@
--- `wide_cells_at` meets its contract: the first i numbers have been written.
+-- `wide_cells_at` meets its contract: after i turns the first i numbers are written.
 use Prim.Native.Nat.{_-_}
 use native.Mathlib.Omega.{arith}
 use borrow.Author.Needs.{needs}

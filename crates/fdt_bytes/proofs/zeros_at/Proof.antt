@@ -1,4 +1,4 @@
--- `zeros_at` meets its contract: the part that was lent comes back with the zeros over its front.
+-- `zeros_at` meets its contract: the front of the lent part is overwritten (`lent`).
 use native.Mathlib.Omega.{arith}
 use borrow.Author.Needs.{needs}
 use Rattle.fdt_bytes.specs.Padding.{zeros}

@@ -1,4 +1,4 @@
--- `pairs_from` counts on from each pair: what is still to be told stays the same.
+-- `pairs_from` counts pair by pair: the answer for what is left, plus the count so far, stays the same.
 use mathlib.Core.Path.{_≡_, sym, _∙_}
 use Prim.Native.Nat.{_+_, _*_, _≤_}
 use native.Mathlib.Omega.{arith}

@@ -1,5 +1,4 @@
--- `property_at` makes the tests of `propertyAt` in their order: a size that is not 0 says that the property is whole (`size-whole`),
--- and a name that meets a 0 inside the strings has a place in the blob.
+-- `property_at` makes the tests of `propertyAt` in their order: a size other than 0 means that the property is whole (`size-whole`).
 use native.Mathlib.Omega.{arith}
 use borrow.Author.Needs.{needs}
 use borrow.Author.Tests.{le-leb, lt-leb}

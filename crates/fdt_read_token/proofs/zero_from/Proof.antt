@@ -1,4 +1,4 @@
--- `zero_from` finds nothing past the end, and what the kit's search finds before it, which `zero-found` says.
+-- `zero_from` finds nothing past the end, and before it what the kit's search finds (`zero-found`).
 use mathlib.Core.Path.{sym, _∙_}
 use native.Mathlib.Omega.{arith}
 use borrow.Author.Needs.{needs}
