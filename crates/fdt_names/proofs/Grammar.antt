@@ -1,4 +1,4 @@
--- Laws of `specs/Grammar.antt`: what `inTwo` means, what a loop over every byte tests, and a match taken apart at its first byte.
+-- Laws of `specs/Grammar.antt`: what `inTwo` means, a loop over every byte, and a match by its first byte.
 use Prim.Native.Nat.{ℕ, suc, _+_, _<_}
 use native.Mathlib.Numerals.{add-one}
 use mathlib.Core.Path.{_≡_, refl, ap, _∙_}
@@ -42,7 +42,7 @@ uncut p q [] [] e f = simp (e, f)
 uncut p q [] (x ∷ b) e f = simp (e, f)
 uncut p q (x ∷ a) b e f = simp (uncut (λ front. p (x ∷ front)) q a b e f, or-true)
 
--- `inTwo` says what its comment says
+-- `inTwo` is true exactly when there is such a cut
 pub inTwo-means : (p q : List ℕ → Bool) (s : List ℕ) → inTwo p q s ≡ true ↔ Cut p q s
 inTwo-means p q s = (
   cut p q s,
@@ -54,7 +54,7 @@ unfolding inTwo
 inTwo-none q [] = refl
 inTwo-none q (b ∷ s) = inTwo-none q s
 
--- a test that the front does not decide may be made first
+-- a test that does not depend on the front can be made first
 inTwo-and : (t : Bool) (p q : List ℕ → Bool) (s : List ℕ) → inTwo (λ front. t && p front) q s ≡ (t && inTwo p q s)
 inTwo-and true p q s = refl
 inTwo-and false p q s = inTwo-none q s
@@ -63,7 +63,7 @@ pub and-swap : (c a d : Bool) → (a && (c && d)) ≡ (c && (a && d))
 and-swap true a d = refl
 and-swap false a d = and-false a
 
--- every byte of the class, at the byte that a loop at i tests
+-- one turn of a loop over every byte
 pub all-next :
     (class : ℕ → Bool) (s : List ℕ) (i : ℕ) →
     i < length s →

@@ -1,4 +1,4 @@
--- Laws of `specs/Names.antt`: one of a list of bytes as `bytes::scan::find` finds it, and a node name cut at its first @.
+-- Laws of `specs/Names.antt`: `bytes::scan::find` decides `oneOf`, and a node name is tested by the parts before and after its first @.
 use Prim.Native.Nat.{ℕ, zero, suc, _+_, _-_, _<_}
 use native.Mathlib.Nat.{zero-add}
 use native.Mathlib.Numerals.{add-one, one-add}
@@ -29,7 +29,7 @@ slice-to-end : (i : ℕ) (s : List ℕ) → slice i (length s) s ≡ drop i s
 unfolding slice
 slice-to-end i s = rw take-length
 
--- what `find` tells of the whole of s
+-- what `find` says of the whole of s
 pub found : (b : ℕ) (s : List ℕ) {r : ℕ} → r ≡ 0 + indexOf b (slice 0 (length s) s) → ltb r (length s) ≡ oneOf s b
 found b s e = simp (e, zero-add, slice-to-end 0 s) (index-of b s)
 

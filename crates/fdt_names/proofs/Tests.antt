@@ -1,4 +1,4 @@
--- What a branch on the answer t of a call tells of the test u that the call decided, where a definition goes on with a test v.
+-- A call returned t, which is the test u of a definition that goes on with a test v: what a branch on t says of both.
 use mathlib.Core.Path.{_≡_, sym, _∙_}
 use mathlib.Core.Bool.{Bool, true, false, not, _&&_, _||_}
 use borrow.Author.Tests.{not-true, not-false}

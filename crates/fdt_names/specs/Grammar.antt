@@ -1,4 +1,4 @@
--- A small language of grammars over bytes, and when bytes match a grammar.
+-- Grammars of bytes, and when bytes match a grammar.
 use Prim.Native.Nat.{ℕ}
 use mathlib.Core.Bool.{Bool, true, _&&_, _||_}
 use mathlib.Core.List.{List, [], _∷_}
@@ -7,17 +7,17 @@ use lib.Dec.{eqb, leb}
 
 infixr 30 _then_
 infixr 20 _or_
--- what a grammar is made of; a class of bytes is a test of one byte
+-- a grammar; a class of bytes is a test of one byte
 pub data Grammar : Type 0 where
   -- no byte at all
   nothing : Grammar
-  -- at least so many and at most so many bytes of a class
+  -- from a least to a greatest number of bytes of a class
   fromTo : ℕ → ℕ → (ℕ → Bool) → Grammar
   -- any number of bytes of a class
   any : (ℕ → Bool) → Grammar
-  -- the one and then the other
+  -- one grammar and then another
   _then_ : Grammar → Grammar → Grammar
-  -- the one or the other
+  -- one grammar or another
   _or_ : Grammar → Grammar → Grammar
 
 -- every byte is of the class

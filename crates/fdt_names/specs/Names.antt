@@ -5,7 +5,7 @@ use mathlib.Core.List.{List, [], _∷_}
 use lib.Dec.{eqb, leb}
 use Rattle.fdt_names.specs.Grammar.{Grammar, nothing, fromTo, any, _then_, _or_, all}
 
--- the byte is the one given
+-- the byte is the given one
 unfoldable pub is : ℕ → ℕ → Bool
 is one b = eqb b one
 
@@ -46,6 +46,6 @@ nodeName = nothing or fromTo 1 1 letter then fromTo 0 30 nodeByte then (nothing 
 unfoldable pub propertyName : Grammar
 propertyName = fromTo 1 31 propertyByte
 
--- a byte 0 stands among the bytes
+-- one of the bytes is 0
 unfoldable pub hasZero : List ℕ → Bool
 hasZero s = not (all (λ b. not (eqb b 0)) s)

@@ -1,30 +1,30 @@
-// Which bytes are a name of a node, and which of a property.
+// Tests of names: of nodes, of properties, and for a byte 0.
 ghost use mathlib.Core.Path.{_≡_};
 ghost use mathlib.Core.Bool.{_&&_, _||_};
 ghost use lib.Dec.{leb};
 ghost use Rattle.fdt_names.specs.Grammar.{all, matches};
 ghost use Rattle.fdt_names.specs.Names.{letter, oneOf, nameByte, nodeName, propertyName, hasZero};
 
-// The longest node name, without its unit address.
+// The greatest length of a node name, without its unit address.
 pub const NODE_NAME_MAX_LEN: usize = 31;
 
-// The longest property name.
+// The greatest length of a property name.
 pub const PROPERTY_NAME_MAX_LEN: usize = 31;
 
-// The marks of a node name, which it may have besides letters and digits.
+// What a node name may have besides letters and digits.
 const NODE_NAME_MARKS: [u8; 5] = *b",._+-";
 
-// The marks of a property name.
+// What a property name may have besides letters and digits.
 const PROPERTY_NAME_MARKS: [u8; 7] = *b",._+?#-";
 
-// Whether a byte lies between two others.
+// Whether a byte is in a range, both ends included.
 fn within(c: u8, from: u8, to: u8) -> bool
     ensures { λ r. ⌜ r ≡ (leb from c && leb c to) ⌝ }
 {
     from <= c && c <= to
 }
 
-// Whether a byte is one of the list.
+// Whether a byte is one of `s`.
 fn contains(s: &[u8], c: u8) -> bool
     ensures { λ r. ⌜ r ≡ oneOf (now (s .entry)) c ⌝ }
 {
@@ -59,7 +59,7 @@ fn all_valid_chars(s: &[u8], marks: &[u8]) -> bool
     true
 }
 
-// Whether the bytes are a name of a node.
+// Whether the bytes are a node name.
 pub fn node_name_valid(name: &[u8]) -> bool
     ensures { λ r. ⌜ r ≡ matches nodeName (now (name .entry)) ⌝ }
 {
@@ -67,7 +67,7 @@ pub fn node_name_valid(name: &[u8]) -> bool
     if n == 0 {
         return true;
     }
-    // where the first @ stands, or the end
+    // the place of the first @, or the end
     let at = bytes::scan::find(name, 1, n, b'@');
     if NODE_NAME_MAX_LEN < at || !node_name_valid_first_char(name[0]) {
         return false;
@@ -82,7 +82,7 @@ pub fn node_name_valid(name: &[u8]) -> bool
     all_valid_chars(&name[next..], &NODE_NAME_MARKS)
 }
 
-// Whether the bytes are a name of a property.
+// Whether the bytes are a property name.
 pub fn property_name_valid(name: &[u8]) -> bool
     ensures { λ r. ⌜ r ≡ matches propertyName (now (name .entry)) ⌝ }
 {
@@ -92,7 +92,7 @@ pub fn property_name_valid(name: &[u8]) -> bool
     all_valid_chars(name, &PROPERTY_NAME_MARKS)
 }
 
-// Whether a byte 0 stands among the bytes.
+// Whether one of the bytes is 0.
 pub fn has_zero(s: &[u8]) -> bool
     ensures { λ r. ⌜ r ≡ hasZero (now (s .entry)) ⌝ }
 {

@@ -1,4 +1,4 @@
--- `fdt_names::all_valid_chars` meets its contract. The loop's invariant: the bytes from i on decide.
+-- `all_valid_chars` meets its contract. The invariant: the bytes from `i` on decide.
 use mathlib.Core.Path.{_≡_, refl, sym, ap, _∙_}
 use Prim.Native.Nat.{_≤_, _-_}
 use native.Mathlib.Omega.{arith}

@@ -1,4 +1,4 @@
--- `fdt_names::contains` meets its contract: what is found stands before the end.
+-- `contains` meets its contract: the byte is found before the end.
 use borrow.Author.Needs.{needs}
 use Rattle.fdt_names.proofs.Names.{found}
 use Rattle.fdt_names.proofs.contains.Statement.{statement}

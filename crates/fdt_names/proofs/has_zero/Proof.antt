@@ -1,4 +1,4 @@
--- `fdt_names::has_zero` meets its contract: 0 is one of the list.
+-- `has_zero` meets its contract: 0 is one of the list.
 use mathlib.Core.Path.{_∙_}
 use borrow.Author.Needs.{needs}
 use Rattle.fdt_names.proofs.Names.{has-zero}

@@ -1,4 +1,4 @@
--- `fdt_names::name_valid_char` meets its contract: its three tests are those of `nameByte`, in that order.
+-- `name_valid_char` meets its contract: its three tests are those of `nameByte`, in that order.
 use borrow.Author.Needs.{needs}
 use Rattle.fdt_names.specs.Names.{digit, nameByte}
 use Rattle.fdt_names.proofs.Tests.{or-yes, or-no}

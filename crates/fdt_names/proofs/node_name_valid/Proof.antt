@@ -1,4 +1,4 @@
--- `fdt_names::node_name_valid` meets its contract: the name is cut at its first @ or its end, and its parts are tested one after another.
+-- `node_name_valid` meets its contract: the name is cut at its first @ or its end, and its parts are tested one after another.
 use mathlib.Core.Path.{_≡_, sym, ap, _∙_}
 use mathlib.Core.Bool.{_&&_, and-false}
 use mathlib.Core.Logic.{⊎-elim}
@@ -18,7 +18,7 @@ use Rattle.fdt_names.proofs.node_name_valid.Tie as tie
 past : {i n : ℕ} → i ≡ n → n ≤ i + 1
 past e = omega arith
 
--- once the first byte and the length before the @ are tested
+-- after the tests of the first byte and of the length before the @
 begun :
     (c : tie.Else3) →
     let found = c .before .before .before .before in
@@ -31,10 +31,11 @@ begun c =
     ∙ and-yes (c .before .node-name-valid-first-char .ensures) _ (c .if3 .left)
     ∙ simp (le-leb (found .find .result) 31 (c .before .before .before .if2 .left))
 
--- once the bytes before the @ are tested
+-- after the test of the bytes before the @
 based :
     (c : tie.Else4) →
-    let found = c .before .before .before .before .before .before .before .before in
+    let first = c .before .before .before .before in
+    let found = first .before .before .before .before in
     let name = found .before .before .before .args .name .now in
     matches nodeName name ≡ all nodeByte (drop (found .find .result + 1) name)
 unfolding nodeByte
@@ -45,10 +46,6 @@ based c =
 returns : tie.Need-returns
 unfolding matches nodeName
 returns c = sym (simp (eq-eqb _ 0 (c .if1 .taken)))
-
-shared-slice-read-node-name-valid-first-char :
-    tie.Need-shared-slice-read-node-name-valid-first-char
-shared-slice-read-node-name-valid-first-char c = search needs
 
 returns-2 : tie.Need-returns-2
 returns-2 c =
@@ -76,9 +73,7 @@ node-name-valid-spec =
     tie.close
     (tie.spec
     returns
-    (λ c κs. search needs)
-    shared-slice-read-node-name-valid-first-char
-    (λ c κs. search needs)
+    (λ c κs. search needs) (λ c. search needs) (λ c κs. search needs)
     returns-2
     (λ c. search needs) (λ c. search needs) (λ c. search needs) (λ c. search needs) (λ c κs. search needs)
     returns-3

@@ -1,4 +1,4 @@
--- `fdt_names::node_name_valid_first_char` meets its contract: its two tests are those of `letter`.
+-- `node_name_valid_first_char` meets its contract: its two tests are those of `letter`.
 use borrow.Author.Needs.{needs}
 use Rattle.fdt_names.specs.Names.{letter}
 use Rattle.fdt_names.proofs.Tests.{or-yes, or-no}

@@ -1,4 +1,4 @@
--- `fdt_names::property_name_valid` meets its contract: the length is tested first, and then the bytes.
+-- `property_name_valid` meets its contract: the length is tested first, and then the bytes.
 use mathlib.Core.Path.{sym, _∙_}
 use mathlib.Core.Bool.{and-false}
 use mathlib.Core.Logic.{⊎-elim}
@@ -23,7 +23,8 @@ returns c =
 returns-2 : tie.Need-returns-2
 unfolding matches propertyName propertyByte
 returns-2 c =
-    let n = length (c .before .before .before .before .before .args .name .now) in
+    let sized = c .before .before in
+    let n = length (sized .before .before .before .args .name .now) in
     c .all-valid-chars .ensures ∙ sym (simp (le-leb 1 n (omega arith), le-leb n 31 (omega (arith, ltb-false))))
 
 pub property-name-valid-spec : {M : Type 1} → statement M

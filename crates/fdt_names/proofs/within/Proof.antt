@@ -1,4 +1,4 @@
--- `fdt_names::within` meets its contract: the first test decides, or the second.
+-- `within` meets its contract: the first test decides, or the second.
 use borrow.Author.Tests.{le-leb, lt-leb}
 use Rattle.fdt_names.proofs.within.Statement.{statement}
 use Rattle.fdt_names.proofs.within.Tie as tie
