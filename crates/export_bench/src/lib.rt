@@ -1,8 +1,8 @@
-// A run of the writer as one function that Rust can link, so that the proved code can be timed beside the original.
+// A run of the writer as one exported function, so that Rust can time the proved code beside the original.
 use fdt_nodes::FdtWriterNode;
 use fdt_writer::FdtWriter;
 
-// The part of a text from one place up to another; an empty one where it has no such part.
+// The bytes of `text` from `from` up to `to`; none if it has no such part.
 fn part(text: &[u8], from: usize, to: usize) -> &[u8] {
     if from <= to && to <= text.len() {
         &text[from..to]
@@ -11,7 +11,7 @@ fn part(text: &[u8], from: usize, to: usize) -> &[u8] {
     }
 }
 
-// Makes a call: 1 begins a node, 2 ends the last one, 3 writes a property, any other number finishes.
+// Makes a call: 1 begins a node, 2 ends it, 3 writes a property, and any other number finishes.
 fn made(
     w: FdtWriter,
     kind: usize,
@@ -41,8 +41,8 @@ fn made(
     }
 }
 
-// Opens a writer, makes the calls, and tells how long the shown blob is. A call is five numbers:
-// its kind, where its name begins and ends in the text, and where its value does.
+// Opens a writer, makes the calls, and returns the length of the shown blob. A call is five numbers:
+// its kind, the start and end of its name in the text, and the start and end of its value.
 #[no_mangle]
 pub extern "C" fn export_bench(
     calls: &[usize],

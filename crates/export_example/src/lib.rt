@@ -1,4 +1,4 @@
-// How a boot program builds its blob: the root of a station's tree, with its offset from UTC.
+// How a boot program writes its blob: a root node with one property, the station's offset from UTC.
 use fdt_record::Answer;
 use fdt_writer::Answered;
 use fdt_writer::FdtWriter;
@@ -8,7 +8,7 @@ fn refused(answer: Answer) -> bool {
     !fdt_record::accepted(answer)
 }
 
-// Writes the root. Where its begin is refused, so is its property, since no node is open then.
+// Writes the root. If its begin is refused, so is its property, since no node is open then.
 fn root(w: FdtWriter, blob: &mut [u8], strings: &mut [u8], utc_offset: u32) -> Answered {
     let begun = w.begin_node(blob, b"");
     let w = begun.writer;
@@ -22,7 +22,7 @@ fn root(w: FdtWriter, blob: &mut [u8], strings: &mut [u8], utc_offset: u32) -> A
     w.end_node(blob, node)
 }
 
-// Writes the blob into the front of what is lent: how long it is, or 0 where a call was refused.
+// Writes the blob to the front of the buffer. Returns its length, or 0 if a call was refused.
 #[no_mangle]
 pub extern "C" fn station_blob(blob: &mut [u8], utc_offset: u32) -> usize {
     let mut strings = [0; 64];

@@ -1,4 +1,4 @@
--- The header's words, where the structure's start was computed, and how many bytes they take (document 01, "The bytes").
+-- The words of the header from a computed start of the structure, and their length in bytes.
 use mathlib.Core.Path.{_≡_}
 use mathlib.Core.List.{[], _∷_}
 use Prim.Native.Nat.{ℕ, _+_, _-_}

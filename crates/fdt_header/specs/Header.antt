@@ -13,11 +13,11 @@ magic = 0xd00dfeed
 abbrev pub version : ℕ
 version = 17
 
--- the oldest version that it can be read as
+-- the oldest version that it is compatible with
 abbrev pub lastCompatible : ℕ
 lastCompatible = 16
 
--- the header's size, where the reservations begin
+-- the size of the header; the reservations begin there
 abbrev pub headerSize : ℕ
 headerSize = 40
 
@@ -29,7 +29,7 @@ structureStart n = 56 + 16 * n
 unfoldable pub reservationBytes : List ℕ → List ℕ
 reservationBytes numbers = cellBytes 8 numbers ++ zeros 16
 
--- the header's words, in order, of a blob with n reservations whose structure ends and whose strings begin at `strings`
+-- the words of the header, in order; n is the number of reservations, and the structure ends where the strings begin
 unfoldable pub headerWords : ℕ → ℕ → ℕ → ℕ → List ℕ
 headerWords n strings stringsSize boot =
     magic
@@ -44,6 +44,6 @@ headerWords n strings stringsSize boot =
     ∷ (strings - structureStart n)
     ∷ []
 
--- the header's bytes
+-- the bytes of the header
 unfoldable pub headerBytes : ℕ → ℕ → ℕ → ℕ → List ℕ
 headerBytes n strings stringsSize boot = cellBytes 4 (headerWords n strings stringsSize boot)

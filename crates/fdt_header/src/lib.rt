@@ -1,15 +1,15 @@
-// A blob's header, and where its structure begins. The bytes are defined in specs/.
+// The header of a blob, and where the structure begins.
 ghost use mathlib.Core.Path.{_≡_};
 ghost use Prim.Native.Nat.{ℕ, _+_, _≤_, _<_, _^_};
 ghost use Rattle.fdt_header.specs.Header.{structureStart, headerWords};
 
-// The size of a reservation: its address and its size. As many zeros end the reservations.
+// Bytes of a reservation: its address and its size. As many zeros end the reservations.
 pub const RESERVATION_SIZE: usize = 16;
 
-// Where the structure begins if there are no reservations: after the header and the zeros that end them.
+// Where the structure begins if there are no reservations: after the header and those zeros.
 pub const STRUCTURE_START: usize = Header::SIZE + RESERVATION_SIZE;
 
-// The figures of a finished blob's header.
+// The numbers of a header that differ from blob to blob.
 pub struct Header {
     pub off_dt_struct: u32,
     pub off_dt_strings: u32,
@@ -24,13 +24,13 @@ impl Header {
 
     pub const LAST_COMP_VERSION: u32 = 16;
 
-    // The header's size.
+    // Bytes of the header.
     pub const SIZE: usize = 40;
 
     // Where the reservations begin: just after the header.
     pub const OFF_MEM_RSVMAP: u32 = Self::SIZE as u32;
 
-    // The header's words, in order.
+    // The words of the header, in order.
     pub fn words(self) -> [u32; 10]
         requires { ⌜ self .«off_dt_struct» ≤ self .«off_dt_strings» ⌝ }
         requires { ⌜ self .«off_dt_strings» + self .«size_dt_strings» < 2 ^ 32 ⌝ }
@@ -51,7 +51,7 @@ impl Header {
     }
 }
 
-// Where the structure begins in a blob with so many reservations.
+// Where the structure begins in a blob with `n` reservations.
 pub fn structure_start(n: usize) -> usize
     requires { ⌜ n < 2 ^ 32 ⌝ }
     ensures { λ r. ⌜ r ≡ structureStart n ⌝ }

@@ -1,5 +1,5 @@
--- `export_bench` is safe and ends: every call's five numbers stand in the list.
-use Prim.Native.Nat.{_≤_, _<_, _-_}
+-- `export_bench` is safe and ends: the five numbers of every call are in the list.
+use Prim.Native.Nat.{_≤_, _<_, _-_, _^_}
 use mathlib.Core.Path.{_≡_}
 use lib.ListN.{length}
 use borrow.Author.Needs.{needs}
@@ -8,7 +8,7 @@ use Rattle.export_bench.proofs.export_bench.Statement.{statement}
 use Rattle.export_bench.proofs.export_bench.Tie as tie
 
 abbrev Inv-loop : tie.InvT-loop
-Inv-loop calls text blob₀ strings₀ w₀ n i₀ blob strings w i = (i ≤ n) × (n < 18446744073709551616) × ((length blob ≡ length blob₀) × (length strings ≡ length strings₀))
+Inv-loop calls text blob₀ strings₀ w₀ n i₀ blob strings w i = (i ≤ n) × (n < 2 ^ 64) × (length blob ≡ length blob₀) × (length strings ≡ length strings₀)
 
 abbrev μ-loop : tie.MeasureT-loop
 μ-loop calls text blob₀ strings₀ w₀ n i₀ blob strings w i = n - i

@@ -1,4 +1,4 @@
--- `words` meets its contract: the words are the definition's, where the structure begins as it says.
+-- `words` meets its contract: the words are those of the definition.
 use borrow.Author.Needs.{needs}
 use Rattle.fdt_header.proofs.HeaderBytes.{words-by-start}
 use Rattle.fdt_header.proofs.Header.words.Statement.{statement}
