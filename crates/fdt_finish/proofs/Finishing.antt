@@ -1,16 +1,18 @@
 -- Laws of a finish: the lengths of what it writes, exactly when it is accepted or refused, and what an accepted one may rely on.
-use mathlib.Core.Path.{_≡_, refl, ap, _∙_}
+use mathlib.Core.Path.{_≡_, refl, sym, ap, subst, _∙_}
 use mathlib.Core.Bool.{Bool, true, false}
 use mathlib.Core.List.{List}
-use Prim.Native.Nat.{ℕ, _+_, _-_, _≤_}
+use Prim.Native.Nat.{ℕ, _+_, _-_, _*_, _≤_, _<_}
+use native.Mathlib.Nat.{zero-add}
 use native.Mathlib.Omega.{arith}
 use borrow.Author.Tests.{eqb-true, not-false}
 use lib.Dec.{eqb}
-use lib.ListN.{length, take, length-take}
+use lib.ListN.{length, take, getD, length-take}
 use Rattle.fdt_bytes.specs.BigEndian.{bigEndian, cellBytes}
-use Rattle.fdt_bytes.specs.Splice.{splice}
+use Rattle.fdt_bytes.specs.Splice.{over, splice}
 use Rattle.fdt_bytes.proofs.BigEndian.{length-bigEndian}
-use Rattle.fdt_bytes.proofs.Splice.{length-splice, splice-splice}
+use Rattle.fdt_bytes.proofs.Cells.{Written, written-more}
+use Rattle.fdt_bytes.proofs.Splice.{length-splice, lent, splice-splice}
 use Rattle.fdt_header.specs.Header.{structureStart, headerWords, headerBytes}
 use Rattle.fdt_format.specs.Tokens.{finalToken, finalBytes}
 use Rattle.fdt_header.proofs.HeaderBytes.{length-header}
@@ -21,15 +23,23 @@ use Rattle.fdt_record.specs.Answers.{accepts, upon}
 use Rattle.fdt_record.specs.Limits.{blobCeiling}
 use Rattle.fdt_record.specs.Tests.{aloneRows, blobRows, stringsRows}
 use Rattle.fdt_record.proofs.Answers.{accepts-done, upon-done, upon-refused}
-use Rattle.fdt_record.proofs.Fits.{fit-blob, fit-strings, has-room}
+use Rattle.fdt_record.proofs.Fits.{fit-blob, fit-strings, not-overfull}
 use Rattle.fdt_record.proofs.Rows.{NoneHolds, Refusals, Exactly, exactly}
-use Rattle.fdt_finish.specs.Finish.{usedStrings, finishRows, finishAnswer, finishedBlob, finishBlob}
+use Rattle.fdt_finish.specs.Finish.{usedStrings, finishRows, finishAnswer, finishedRecord, finishedBlob, finishBlob}
 
--- word 9 and then the strings
-pub splice-final : (at : ℕ) (strings blob : List ℕ) → at + 4 ≤ length blob → splice (at + 4) strings (splice at (bigEndian 4 finalToken) blob) ≡ splice at (finalBytes strings) blob
-unfolding finalBytes
-splice-final at strings blob h =
-    splice-splice at (at + 4) (bigEndian 4 finalToken) strings blob (ap (λ (n : ℕ). at + n) (length-bigEndian 4 finalToken)) h
+-- word 9 and then the strings, into the rest of the blob
+pub put-final : (strings rest r₁ r₂ : List ℕ) → 4 ≤ length rest → r₁ ≡ over (bigEndian 4 finalToken) rest → r₂ ≡ splice 4 strings r₁ → r₂ ≡ over (finalBytes strings) rest
+unfolding splice finalBytes
+put-final strings rest r₁ r₂ h e₁ e₂ =
+    e₂ ∙ ap (splice 4 strings) e₁ ∙ splice-splice 0 4 (bigEndian 4 finalToken) strings rest (omega (arith, length-bigEndian 4 finalToken)) h
+
+-- the word that is rewritten next
+pub word-more : {words before now after : List ℕ} {i : ℕ} → 4 * length words ≤ length before → Written 4 0 words before now i → i < length words → after ≡ splice (4 * i) (bigEndian 4 (getD words i 0)) now → Written 4 0 words before after (i + 1)
+word-more {words} {before} {now} {after} {i} room w h e =
+    let one = bigEndian 4 (getD words i 0) in
+    let put = lent (0 + 4 * i) one now _ (omega (arith, w .kept)) refl in
+    subst (λ (l : List ℕ). Written 4 0 words before l (i + 1)) (put ∙ ap (λ (n : ℕ). splice n one now) (zero-add (4 * i)) ∙ sym e)
+    (written-more (omega arith) w h refl)
 
 module _ (w : Record) (lent : ℕ) (strings : List ℕ) where
   pub finish-refusals : Refusals (finishRows w lent strings)
@@ -51,7 +61,7 @@ pub record Finishable (w : Record) (lent : ℕ) (strings : List ℕ) : Type 0 wh
   pub stored : w .«strings_used» ≤ length strings
 
 pub finish-fits : (w : Record) (lent : ℕ) (strings : List ℕ) → finishAnswer w lent strings ≡ Done → Finishable w lent strings
-unfolding finishRows stringsRows blobRows aloneRows NoneHolds
+unfolding finishRows stringsRows blobRows aloneRows NoneHolds finishedRecord
 finish-fits w lent strings e =
     let n = finish-exactly w lent strings .accepted .0 e in
     let m = n .1 .1 in
@@ -61,22 +71,17 @@ finish-fits w lent strings e =
       unmarked = n .0;
       depth = eqb-true (w .«node_depth») 0 (not-false (eqb (w .«node_depth») 0) (m .1 .1 .0));
       started = b .started;
-      room = has-room w (4 + w .«strings_used») (m .1 .1 .1 .0);
+      room = not-overfull (finishedRecord w) (m .1 .1 .1 .0);
       small = b .small;
       within = b .within;
       stored = omega (arith, s .used, s .within);
     }
 
 module _ (w : Record) (blob strings : List ℕ) where
-  -- the three writes of a finish, one after the other
-  pub finished-by-parts : {words first second third : List ℕ} → w .«blob_used» + 4 ≤ length blob → first ≡ splice (w .«blob_used») (bigEndian 4 finalToken) blob → second ≡ splice (w .«blob_used» + 4) (take (w .«strings_used») strings) first → words ≡ headerWords (w .reservations) (w .«blob_used» + 4) (w .«strings_used») (w .«boot_cpuid_phys») → third ≡ splice 0 (cellBytes 4 words) second → third ≡ finishedBlob w blob strings
-  unfolding finishedBlob usedStrings headerBytes
-  finished-by-parts {words} {first} {second} {third} h p q e r =
-      let used = take (w .«strings_used») strings in
-      r
-      ∙ ap (λ (l : List ℕ). splice 0 (cellBytes 4 l) second) e
-      ∙ ap (splice 0 (headerBytes (w .reservations) (w .«blob_used» + 4) (w .«strings_used») (w .«boot_cpuid_phys»)))
-      (q ∙ ap (splice (w .«blob_used» + 4) used) p ∙ splice-final (w .«blob_used») used blob h)
+  -- the strings' end and the header, one after the other
+  pub finished-by-parts : {words first second : List ℕ} → first ≡ splice (w .«blob_used») (finalBytes (usedStrings w strings)) blob → words ≡ headerWords (w .reservations) (w .«blob_used» + 4) (w .«strings_used») (w .«boot_cpuid_phys») → second ≡ splice 0 (cellBytes 4 words) first → second ≡ finishedBlob w blob strings
+  unfolding finishedBlob headerBytes
+  finished-by-parts {words} {first} {second} p e r = r ∙ ap (λ (l : List ℕ). splice 0 (cellBytes 4 l) first) e ∙ ap (splice 0 _) p
 
   -- an accepted finish keeps the blob's length
   pub length-finished : finishAnswer w (length blob) strings ≡ Done → length (finishedBlob w blob strings) ≡ length blob

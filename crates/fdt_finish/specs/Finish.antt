@@ -14,7 +14,7 @@ use Rattle.fdt_record.specs.declared.Outcome.{Outcome}
 use Rattle.fdt_record.specs.declared.Record.{Record}
 use Rattle.fdt_record.specs.Answers.{upon}
 use Rattle.fdt_record.specs.Fields.{withUsedBlob, withFinished}
-use Rattle.fdt_record.specs.Misfits.{noRoom}
+use Rattle.fdt_record.specs.Misfits.{overfull}
 use Rattle.fdt_record.specs.Rows.{Row, _⇒_, first}
 use Rattle.fdt_record.specs.Tests.{stringsRows}
 
@@ -22,21 +22,21 @@ use Rattle.fdt_record.specs.Tests.{stringsRows}
 unfoldable pub usedStrings : Record → List ℕ → List ℕ
 usedStrings w strings = take (w .«strings_used») strings
 
+-- the record after an accepted finish: marked finished, its used blob length the total size, the rest kept
+unfoldable pub finishedRecord : Record → Record
+finishedRecord w = withFinished true (withUsedBlob (w .«blob_used» + (4 + w .«strings_used»)) w)
+
 -- the tests, in their order, of a call that is lent so many bytes and these strings
 unfoldable pub finishRows : Record → ℕ → List ℕ → List Row
 finishRows w lent strings =
     stringsRows w lent strings
     ++ (not (eqb (w .«node_depth») 0) ⇒ UnclosedNode)
-    ∷ (noRoom w (4 + w .«strings_used») ⇒ BlobRoom)
+    ∷ (overfull (finishedRecord w) ⇒ BlobRoom)
     ∷ []
 
 -- the answer
 unfoldable pub finishAnswer : Record → ℕ → List ℕ → Answer
 finishAnswer w lent strings = first (finishRows w lent strings)
-
--- the record after an accepted finish: marked finished, its used blob length the total size, the rest kept
-unfoldable pub finishedRecord : Record → Record
-finishedRecord w = withFinished true (withUsedBlob (w .«blob_used» + (4 + w .«strings_used»)) w)
 
 -- the blob after an accepted finish: word 9 and the strings at the used length, and the header in front
 unfoldable pub finishedBlob : Record → List ℕ → List ℕ → List ℕ

@@ -1,10 +1,13 @@
 // Setting the boot number, finishing a blob, and showing it.
 ghost use mathlib.Core.Path.{_≡_};
-ghost use Prim.Native.Nat.{_+_, _≤_, _<_, _^_};
+ghost use Prim.Native.Nat.{_+_, _*_, _≤_, _<_, _^_};
 ghost use lib.ListN.{length};
+ghost use Rattle.fdt_bytes.specs.BigEndian.{cellBytes};
+ghost use Rattle.fdt_bytes.specs.Splice.{over, splice};
+ghost use Rattle.fdt_format.specs.Tokens.{finalBytes};
 ghost use Rattle.fdt_header.specs.Header.{structureStart};
 ghost use Rattle.fdt_finish.specs.Boot.{boot};
-ghost use Rattle.fdt_finish.specs.Finish.{finishAnswer, finishedBlob, FinishOutcome};
+ghost use Rattle.fdt_finish.specs.Finish.{finishedRecord, finishAnswer, finishedBlob, FinishOutcome};
 ghost use Rattle.fdt_finish.specs.Shown.{shown};
 use fdt_format::FDT_END;
 use fdt_header::Header;
@@ -25,6 +28,17 @@ pub fn set_boot_cpuid_phys(w: Record, boot_cpuid_phys: u32) -> Outcome
     Outcome { answer, after }
 }
 
+// The record that a finish leaves.
+fn after_finish(w: Record) -> Record
+    requires { ⌜ w .«blob_used» + (4 + w .«strings_used») < 2 ^ 64 ⌝ }
+    ensures { λ r. ⌜ r ≡ finishedRecord w ⌝ }
+{
+    let mut after = w;
+    after.blob_used = w.blob_used + (4 + w.strings_used);
+    after.finished = true;
+    after
+}
+
 // The tests of a finish, in their order.
 fn finish_tests(w: Record, lent: usize, strings: &[u8]) -> Answer
     ensures { λ r. ⌜ r ≡ finishAnswer w lent (now (strings .entry)) ⌝ }
@@ -36,13 +50,34 @@ fn finish_tests(w: Record, lent: usize, strings: &[u8]) -> Answer
     if w.node_depth != 0 {
         return Answer::UnclosedNode;
     }
-    if fdt_record::no_room(w, 4 + w.strings_used) {
+    if fdt_record::overfull(after_finish(w)) {
         return Answer::BlobRoom;
     }
     Answer::Done
 }
 
-// Writes word 9 and the used strings at the used length, and the header in front.
+// Writes word 9 and the strings to the front of the rest of the blob.
+fn put_final(rest: &mut [u8], strings: &[u8])
+    requires { ⌜ 4 + length (now strings) ≤ length (now rest) ⌝ }
+    ensures { λ _. ⌜ now (rest .exit) ≡ over (finalBytes (now (strings .entry))) (now (rest .entry)) ⌝ }
+{
+    fdt_bytes::append_u32(rest, FDT_END);
+    fdt_bytes::append_bytes(&mut rest[4..], strings);
+}
+
+// Rewrites the header, word by word.
+fn put_header(blob: &mut [u8], words: &[u32])
+    requires { ⌜ 4 * length (now words) ≤ length (now blob) ⌝ }
+    ensures { λ _. ⌜ now (blob .exit) ≡ splice 0 (cellBytes 4 (now (words .entry))) (now (blob .entry)) ⌝ }
+{
+    let mut i = 0;
+    while i < words.len() {
+        fdt_bytes::update_u32(blob, 4 * i, words[i]);
+        i += 1;
+    }
+}
+
+// Writes word 9 and the used strings into the rest of the blob, and the header in front.
 fn put_finish(w: Record, blob: &mut [u8], strings: &[u8])
     requires { ⌜ structureStart (w .reservations) ≤ w .«blob_used» ⌝ }
     requires { ⌜ w .«blob_used» + (4 + w .«strings_used») < 2 ^ 32 ⌝ }
@@ -50,19 +85,17 @@ fn put_finish(w: Record, blob: &mut [u8], strings: &[u8])
     requires { ⌜ w .«strings_used» ≤ length (now strings) ⌝ }
     ensures { λ _. ⌜ now (blob .exit) ≡ finishedBlob w (now (blob .entry)) (now (strings .entry)) ⌝ }
 {
-    let end = w.blob_used;
-    let at = end + 4;
+    let used = w.blob_used;
     let size = w.strings_used;
-    fdt_bytes::update_u32(blob, end, FDT_END);
-    fdt_bytes::bytes_at(blob, at, &strings[..size]);
+    put_final(&mut blob[used..], &strings[..size]);
     let header = Header {
         off_dt_struct: fdt_header::structure_start(w.reservations) as u32,
-        off_dt_strings: at as u32,
+        off_dt_strings: (used + 4) as u32,
         size_dt_strings: size as u32,
         boot_cpuid_phys: w.boot_cpuid_phys,
     };
     let words = header.words();
-    fdt_bytes::cells_at(blob, 0, &words);
+    put_header(blob, &words);
 }
 
 // Finishes a blob.
@@ -74,10 +107,10 @@ pub fn finish(w: Record, blob: &mut [u8], strings: &[u8]) -> Outcome
         return Outcome { answer, after: w };
     }
     put_finish(w, blob, strings);
-    let mut after = w;
-    after.blob_used = w.blob_used + (4 + w.strings_used);
-    after.finished = true;
-    Outcome { answer, after }
+    Outcome {
+        answer,
+        after: after_finish(w),
+    }
 }
 
 // The finished blob: the front of what is lent, or an empty part.

@@ -1,38 +1,46 @@
--- `put_finish` meets its contract: word 9, the used strings after it, and the header in front.
-use lib.Seq.{length-take-le}
-use Rattle.fdt_finish.proofs.Finishing.{finished-by-parts}
-use borrow.Author.Needs.{needs}
+-- `put_finish` meets its contract: word 9 and the used strings in the rest, and the header in front.
 use native.Mathlib.Omega.{arith}
+use borrow.Author.Needs.{needs}
+use lib.ListN.{length, length-take, length-drop}
+use lib.Seq.{length-take-le}
+use Rattle.fdt_bytes.proofs.Splice.{lent}
+use Rattle.fdt_format.specs.Tokens.{finalBytes}
+use Rattle.fdt_finish.specs.Finish.{usedStrings}
+use Rattle.fdt_finish.proofs.Finishing.{finished-by-parts}
 use Rattle.fdt_finish.proofs.put_finish.Statement.{statement}
 use Rattle.fdt_finish.proofs.put_finish.Tie as tie
 
-slice-aggregate-bytes-at : tie.Need-slice-aggregate-bytes-at
-slice-aggregate-bytes-at c =
-    let s = c .before .before .before .before .before .before .before .before in
-    omega (arith, length-take-le (s .args .w .«strings_used») (s .args .strings .now) (omega arith))
+-- where the call began, seen from where the rest is lent
+abbrev start : tie.After-put-final-arg2 → tie.Start
+start c = c .before .before .before .before
 
-bytes-at-requires : tie.Need-bytes-at-requires
-bytes-at-requires c κs =
-    let s = c .before .before .before .before .before .before .before .before in
-    omega (arith, length-take-le (s .args .w .«strings_used») (s .args .strings .now) (omega arith))
+slice-aggregate-put-final : tie.Need-slice-aggregate-put-final
+slice-aggregate-put-final c =
+    let a = start c .args in omega (arith, length-take-le (a .w .«strings_used») (a .strings .now) (omega arith))
+
+put-final-requires : tie.Need-put-final-requires
+put-final-requires c κs = simp (length-take, length-drop) (omega (arith, start c .pre))
 
 returns : tie.Need-returns
+unfolding usedStrings
 returns c =
-    let u = c .before .before .before .before .before .before .before .before .before .before .before .before .before .before in
-    let s = u .before .before .before .before in
-    finished-by-parts (s .args .w) (s .args .blob .now) (s .args .strings .now) (omega (arith, s .pre))
-    (u .update-u32 .ensures)
-    (c .before .before .before .before .before .before .before .before .before .bytes-at .ensures)
-    (c .before .before .before .before .before .words .ensures (s .args .w .reservations) (c .before .before .before .before .before .before .structure-start .ensures))
-    (c .before .before .cells-at .ensures)
+    let header = c .before .before in
+    let words = header .before .before .before in
+    let final = words .before .before .before .before in
+    let s = start (final .before) in
+    let a = s .args in
+    finished-by-parts (a .w) (a .blob .now) (a .strings .now)
+    (lent (a .w .«blob_used») (finalBytes (usedStrings (a .w) (a .strings .now))) (a .blob .now) _ (omega (arith, s .pre)) (final .put-final .ensures))
+    (words .words .ensures (a .w .reservations) (words .before .structure-start .ensures))
+    (header .put-header .ensures)
 
 pub put-finish-spec : {M : Type 1} → statement M
 put-finish-spec =
     tie.close
     (tie.spec
-    (λ c. search needs) (λ c κs. search needs)
-    slice-aggregate-bytes-at
-    bytes-at-requires
-    (λ c κs. search needs) (λ c. search needs) (λ c. search needs) (λ c. search needs) (λ c κs. search needs)
-    (λ c. search needs) (λ c κs. search needs) (λ c. search needs)
+    (λ c. search needs) (λ c. search needs) (λ c. search needs)
+    slice-aggregate-put-final
+    put-final-requires
+    (λ c κs. search needs) (λ c. search needs) (λ c. search needs) (λ c. search needs) (λ c. search needs)
+    (λ c κs. search needs) (λ c. search needs) (λ c κs. search needs) (λ c. search needs)
     returns)
