@@ -53,7 +53,7 @@ module _ (r : Run) where
   -- the numbers of its opening are pairs, each in order
   opening-fits : OpeningFits (length (r .before .blob)) (r .numbers)
   unfolding answer
-  opening-fits = opened-fits (length (r .before .blob)) (r .numbers) (r .opened)
+  opening-fits = opened-fits (length (r .before .blob)) _ _ (r .numbers) (r .opened)
 
   boot-fits : bootOf (history r) < 2 ^ 32
   unfolding history bootOf

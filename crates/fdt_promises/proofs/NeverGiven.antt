@@ -22,9 +22,9 @@ use Rattle.fdt_finish.specs.Finish.{finishRows, finishAnswer}
 abbrev pub Neither34 : Answer → Type 0
 Neither34 a = not (eqb (numberOf a) 3 || eqb (numberOf a) 4) ≡ true
 
-pub opening-never : (lent : ℕ) (numbers : List ℕ) → Neither34 (openingAnswer lent numbers)
+pub opening-never : (blob strings phandles : ℕ) (numbers : List ℕ) → Neither34 (openingAnswer blob strings phandles numbers)
 unfolding openingAnswer openingRows Every
-opening-never lent numbers = first-every Neither34 (openingRows lent numbers) refl (refl, (refl, (refl, (refl, (refl, tt)))))
+opening-never blob strings phandles numbers = first-every Neither34 (openingRows blob strings phandles numbers) refl (refl, (refl, (refl, (refl, (refl, tt)))))
 
 pub boot-never : (w : Record) → Neither34 (bootAnswer w)
 unfolding bootAnswer aloneRows Every

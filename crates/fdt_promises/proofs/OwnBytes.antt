@@ -51,11 +51,11 @@ kept-splice at bs xs h =
 pub own-opening : {blob : List ℕ} {strings phandles : ℕ} {numbers : List ℕ} {r : Outcome} {a : List ℕ} → OpeningOutcome blob strings phandles numbers r a → r .answer ≡ Done → KeptOutside 0 (length (openingBytes numbers)) blob a × (length (openingBytes numbers) ≤ usable blobCeiling (length blob))
 unfolding opening
 own-opening {blob} {strings} {phandles} {numbers} p e =
-    let told : openingAnswer (length blob) numbers ≡ Done = ap (λ (o : Outcome). o .answer) (sym (p .result)) ∙ e in
-    let f = opened-fits (length blob) numbers told in
+    let told : openingAnswer (length blob) strings phandles numbers ≡ Done = ap (λ (o : Outcome). o .answer) (sym (p .result)) ∙ e in
+    let f = opened-fits (length blob) strings phandles numbers told in
     let n = length-openingBytes numbers in
     let k = kept-splice 0 (openingBytes numbers) blob (omega (arith, n, f .room)) in (
-      subst (λ (l : List ℕ). KeptOutside 0 (length (openingBytes numbers)) blob l) (sym (p .bytes ∙ accepted-blob blob numbers told))
+      subst (λ (l : List ℕ). KeptOutside 0 (length (openingBytes numbers)) blob l) (sym (p .bytes ∙ accepted-blob blob strings phandles numbers told))
           (record { kept-length = k .kept-length; kept = λ i o. k .kept i (⊎-map (λ l. l) (λ l. omega arith) o) }),
       omega (arith, n, f .even, f .started),
     )

@@ -50,21 +50,21 @@ use Rattle.fdt_promises.proofs.Usable.{same-length, same-front, same-sp
 
 -- A blob with the same usable part.
 module _ (xs ys : List ℕ) (same : SameUsable blobCeiling xs ys) where
-  same-opening : (numbers : List ℕ) → openingAnswer (length xs) numbers ≡ openingAnswer (length ys) numbers
-  unfolding openingAnswer openingRows
-  same-opening numbers = simp (same-length blobCeiling xs ys same)
-
   -- opening, over strings and phandles of the same usable lengths
-  pub usable-opening : (s t p q : ℕ) (numbers : List ℕ) → usable stringsCeiling s ≡ usable stringsCeiling t → usable phandlesCeiling p ≡ usable phandlesCeiling q →
-      (opening (length xs) s p numbers ≡ opening (length ys) t q numbers) × SameUsable blobCeiling (openingBlob xs numbers) (openingBlob ys numbers)
-  unfolding opening openingBlob openedRecord
-  usable-opening s t p q numbers h k = (
-    simp (same-opening numbers, same-length blobCeiling xs ys same, h, k),
-    same-upon blobCeiling (same-opening numbers) xs ys _ _ same
-        (λ e.
-        let f = opened-fits (length xs) numbers (accepts-done (openingAnswer (length xs) numbers) e) in
-        same-splice blobCeiling 0 (openingBytes numbers) xs ys same (omega (arith, f .even, f .started, length-openingBytes numbers))),
-  )
+  module _ (s t p q : ℕ) (numbers : List ℕ) (h : usable stringsCeiling s ≡ usable stringsCeiling t) (k : usable phandlesCeiling p ≡ usable phandlesCeiling q) where
+    same-opening : openingAnswer (length xs) s p numbers ≡ openingAnswer (length ys) t q numbers
+    unfolding openingAnswer openingRows openedRecord
+    same-opening = simp (same-length blobCeiling xs ys same, h, k)
+
+    pub usable-opening : (opening (length xs) s p numbers ≡ opening (length ys) t q numbers) × SameUsable blobCeiling (openingBlob xs s p numbers) (openingBlob ys t q numbers)
+    unfolding opening openingBlob openedRecord
+    usable-opening = (
+      simp (same-opening, same-length blobCeiling xs ys same, h, k),
+      same-upon blobCeiling same-opening xs ys _ _ same
+          (λ e.
+          let f = opened-fits (length xs) s p numbers (accepts-done (openingAnswer (length xs) s p numbers) e) in
+          same-splice blobCeiling 0 (openingBytes numbers) xs ys same (omega (arith, f .even, f .started, length-openingBytes numbers))),
+    )
 
   same-begin : (w : Record) (name : List ℕ) → beginAnswer w (length xs) name ≡ beginAnswer w (length ys) name
   unfolding beginAnswer beginRows blobRows

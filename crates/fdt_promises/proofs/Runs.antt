@@ -35,7 +35,7 @@ use Rattle.fdt_promises.proofs.Held.{Open, accepted-open, refused-open}
 pub opened-open : (s : Desk) (numbers : List ℕ) → answer (to-open numbers) s ≡ Done → Open numbers [] 0 [] (after (to-open numbers) s)
 unfolding answer openedRecord openingBytes namesOf namesFrom structureBytes eventsSize joined depthOf endedOf AllPlain
 opened-open s numbers e =
-    let f = opened-fits (length (s .blob)) numbers e in
+    let f = opened-fits (length (s .blob)) _ _ numbers e in
     let bytes = zeros headerSize ++ reservationBytes numbers in
     let start : 0 + length bytes ≡ structureStart (count numbers) = omega (arith, length-openingBytes numbers, f .even) in
     subst (Open numbers [] 0 []) (sym (opened-after s numbers e)) (record {

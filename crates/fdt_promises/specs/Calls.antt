@@ -107,7 +107,7 @@ withPhandles phandles s = record { writer = s .writer; blob = s .blob; strings =
 
 -- what is answered; showing is never refused
 unfoldable pub answer : Request → Desk → Answer
-answer (to-open numbers) s = of-opening.openingAnswer (length (s .blob)) numbers
+answer (to-open numbers) s = of-opening.openingAnswer (length (s .blob)) (length (s .strings)) (length (s .phandles)) numbers
 answer (to-boot n) s = of-boot.bootAnswer (s .writer)
 answer (to-begin name) s = of-begin.beginAnswer (s .writer) (length (s .blob)) name
 answer (to-end handle) s = of-end.endAnswer (s .writer) (length (s .blob)) handle
@@ -120,7 +120,7 @@ answer to-show s = Done
 unfoldable pub after : Request → Desk → Desk
 after (to-open numbers) s =
     withWriter (of-opening.opening (length (s .blob)) (length (s .strings)) (length (s .phandles)) numbers .after)
-    (withBlob (of-opening.openingBlob (s .blob) numbers) s)
+    (withBlob (of-opening.openingBlob (s .blob) (length (s .strings)) (length (s .phandles)) numbers) s)
 after (to-boot n) s = withWriter (of-boot.boot (s .writer) n .after) s
 after (to-begin name) s =
     withWriter (of-begin.begin (s .writer) (s .blob) name .after) (withBlob (of-begin.beginBlob (s .writer) (s .blob) name) s)

@@ -57,7 +57,7 @@ openedOver n = opening n 0 0 [] .after
 
 -- the blob then
 unfoldable pub openedBlob : ℕ → List ℕ
-openedBlob n = openingBlob (dirty n) []
+openedBlob n = openingBlob (dirty n) 0 0 []
 
 -- what finish answers after an empty run over so many bytes
 unfoldable pub emptyRun : ℕ → ℕ
@@ -95,7 +95,7 @@ starred =
     ∷ answers (openWith ((last - 1) ∷ 1 ∷ [])) 0
     -- (4096, 4096) then (0, 4096): taken, order kept; (4096, 4096) then (0, 4097): 9
     ∷ answers (openWith (4096 ∷ 4096 ∷ 0 ∷ 4096 ∷ [])) 0
-    ∷ leaves (take 32 (drop 40 (openingBlob (dirty 88) (4096 ∷ 4096 ∷ 0 ∷ 4096 ∷ [])))) (cellBytes 8 (4096 ∷ 4096 ∷ 0 ∷ 4096 ∷ []))
+    ∷ leaves (take 32 (drop 40 (openingBlob (dirty 88) 0 0 (4096 ∷ 4096 ∷ 0 ∷ 4096 ∷ [])))) (cellBytes 8 (4096 ∷ 4096 ∷ 0 ∷ 4096 ∷ []))
     ∷ answers (openWith (4096 ∷ 4096 ∷ 0 ∷ 4097 ∷ [])) 9
     -- empty run, whole blob of 60 bytes, in words; with 59 bytes lent, opening is taken and finish refused 14
     ∷ answers (emptyRun 60) 0
