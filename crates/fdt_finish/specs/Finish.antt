@@ -26,7 +26,7 @@ usedStrings w strings = take (w .«strings_used») strings
 unfoldable pub finishedRecord : Record → Record
 finishedRecord w = withFinished true (withUsedBlob (w .«blob_used» + (4 + w .«strings_used»)) w)
 
--- the tests, in their order, of a call that is lent so many bytes and these strings
+-- the tests, in their order, of a call that is lent a blob of this length and these strings
 unfoldable pub finishRows : Record → ℕ → List ℕ → List Row
 finishRows w lent strings =
     stringsRows w lent strings

@@ -24,7 +24,7 @@ use Rattle.fdt_nodes.specs.declared.Begun.{Begun}
 unfoldable pub begunRecord : Record → List ℕ → Record
 begunRecord w name = withEnded false (withDepth (w .«node_depth» + 1) (withUsedBlob (w .«blob_used» + length (beginBytes name)) w))
 
--- the tests, in their order, of a call that is lent so many bytes
+-- the tests, in their order, of a call that is lent a blob of this length
 unfoldable pub beginRows : Record → ℕ → List ℕ → List Row
 beginRows w lent name =
     blobRows w lent

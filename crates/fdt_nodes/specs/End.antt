@@ -21,7 +21,7 @@ use Rattle.fdt_record.specs.Tests.{blobRows}
 unfoldable pub endedRecord : Record → Record
 endedRecord w = withEnded true (withDepth (w .«node_depth» - 1) (withUsedBlob (w .«blob_used» + length endBytes) w))
 
--- the tests, in their order, of a call that is lent so many bytes
+-- the tests, in their order, of a call that is lent a blob of this length
 unfoldable pub endRows : Record → ℕ → ℕ → List Row
 endRows w lent handle =
     blobRows w lent

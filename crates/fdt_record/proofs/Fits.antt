@@ -11,7 +11,7 @@ use lib.ListN.{length, getD}
 use Rattle.fdt_header.specs.Header.{structureStart}
 use Rattle.fdt_record.specs.declared.Record.{Record}
 use Rattle.fdt_record.specs.Limits.{blobCeiling, stringsCeiling, phandlesCeiling, mostReservations, mostDepth, usable}
-use Rattle.fdt_record.specs.Misfits.{misfitRecord, misfitRoom, misfitBlob, misfitStrings, misfitPhandles, noRoom, overfull}
+use Rattle.fdt_record.specs.Misfits.{misfitRecord, misfitRoom, offStructure, misfitBlob, misfitStrings, misfitPhandles, noRoom, overfull}
 
 -- neither of two tests
 pub neither : (a b : Bool) → (a || b) ≡ false → (a ≡ false) × (b ≡ false)
@@ -65,7 +65,7 @@ pub record FitBlob (w : Record) (lent : ℕ) : Type 0 where
   pub started : structureStart (w .reservations) ≤ w .«blob_used»
 
 pub fit-blob : (w : Record) (lent : ℕ) → misfitBlob w lent ≡ false → FitBlob w lent
-unfolding misfitBlob
+unfolding misfitBlob offStructure
 fit-blob w lent e =
     let n = neither (misfitRoom blobCeiling lent (w .«blob_room») (w .«blob_used»)) _ e in
     let m = neither (not (eqb (w .«blob_used» % 4) 0)) _ (n .1) in

@@ -50,6 +50,6 @@ accepts Misfit = false
 accepts Finished = false
 accepts TooManyReservations = false
 
--- one thing where a call is accepted, and another where it is refused
+-- the first where a call is accepted, the second where it is refused
 abbrev pub upon : {A : Type 0} → Answer → A → A → A
 upon answer accepted refused = cond (accepts answer) accepted refused

@@ -1,48 +1,58 @@
--- A record with one of its figures set, and the rest as it was.
+-- A record with one of its figures set, and the rest as it was. The rooms and the reservations stay as opening set them.
 use Prim.Native.Nat.{ℕ}
-use mathlib.Core.Bool.{Bool}
+use mathlib.Core.Bool.{Bool, cond}
+use lib.Dec.{eqb}
 use Rattle.fdt_record.specs.declared.Record.{Record}
 
--- a record with these figures, which calls change; the rooms and the reservations stay as opening set them
-abbrev pub figures : Record → (blob strings phandles depth boot : ℕ) (ended mark : Bool) → Record
-figures w blob strings phandles depth boot ended mark = record {
+-- which figure is set, counted as they stand below, and to what
+pub data Figure : Type 0 where
+  number : ℕ → ℕ → Figure
+  flag : ℕ → Bool → Figure
+
+-- a number afterwards: the new one where it is the one that is set, otherwise the old
+abbrev numberAt : ℕ → Figure → ℕ → ℕ
+numberAt k (number j new) old = cond (eqb j k) new old
+numberAt k (flag j new) old = old
+
+-- a flag afterwards
+abbrev flagAt : ℕ → Figure → Bool → Bool
+flagAt k (number j new) old = old
+flagAt k (flag j new) old = cond (eqb j k) new old
+
+abbrev pub setting : Figure → Record → Record
+setting f w = record {
   «blob_room» = w .«blob_room»;
-  «blob_used» = blob;
+  «blob_used» = numberAt 0 f (w .«blob_used»);
   «strings_room» = w .«strings_room»;
-  «strings_used» = strings;
+  «strings_used» = numberAt 1 f (w .«strings_used»);
   «phandles_room» = w .«phandles_room»;
-  «phandles_used» = phandles;
+  «phandles_used» = numberAt 2 f (w .«phandles_used»);
   reservations = w .reservations;
-  «node_depth» = depth;
-  «boot_cpuid_phys» = boot;
-  «node_ended» = ended;
-  finished = mark;
+  «node_depth» = numberAt 3 f (w .«node_depth»);
+  «boot_cpuid_phys» = numberAt 4 f (w .«boot_cpuid_phys»);
+  «node_ended» = flagAt 0 f (w .«node_ended»);
+  finished = flagAt 1 f (w .finished);
 }
 
--- the used length of the blob
 abbrev pub withUsedBlob : ℕ → Record → Record
-withUsedBlob n w = figures w n (w .«strings_used») (w .«phandles_used») (w .«node_depth») (w .«boot_cpuid_phys») (w .«node_ended») (w .finished)
+withUsedBlob n = setting (number 0 n)
 
--- the used length of the strings
 abbrev pub withUsedStrings : ℕ → Record → Record
-withUsedStrings n w = figures w (w .«blob_used») n (w .«phandles_used») (w .«node_depth») (w .«boot_cpuid_phys») (w .«node_ended») (w .finished)
+withUsedStrings n = setting (number 1 n)
 
--- the count of phandles
 abbrev pub withUsedPhandles : ℕ → Record → Record
-withUsedPhandles n w = figures w (w .«blob_used») (w .«strings_used») n (w .«node_depth») (w .«boot_cpuid_phys») (w .«node_ended») (w .finished)
+withUsedPhandles n = setting (number 2 n)
 
--- the depth
 abbrev pub withDepth : ℕ → Record → Record
-withDepth n w = figures w (w .«blob_used») (w .«strings_used») (w .«phandles_used») n (w .«boot_cpuid_phys») (w .«node_ended») (w .finished)
+withDepth n = setting (number 3 n)
 
--- the boot number
 abbrev pub withBoot : ℕ → Record → Record
-withBoot n w = figures w (w .«blob_used») (w .«strings_used») (w .«phandles_used») (w .«node_depth») n (w .«node_ended») (w .finished)
+withBoot n = setting (number 4 n)
 
 -- whether a node was ended last
 abbrev pub withEnded : Bool → Record → Record
-withEnded b w = figures w (w .«blob_used») (w .«strings_used») (w .«phandles_used») (w .«node_depth») (w .«boot_cpuid_phys») b (w .finished)
+withEnded b = setting (flag 0 b)
 
--- the mark of a finished record
+-- whether the record is marked finished
 abbrev pub withFinished : Bool → Record → Record
-withFinished b w = figures w (w .«blob_used») (w .«strings_used») (w .«phandles_used») (w .«node_depth») (w .«boot_cpuid_phys») (w .«node_ended») b
+withFinished b = setting (flag 1 b)

@@ -16,12 +16,14 @@ misfitRecord w = ltb mostDepth (w .«node_depth») || ltb mostReservations (w .r
 unfoldable pub misfitRoom : (ceiling lent room used : ℕ) → Bool
 misfitRoom ceiling lent room used = not (eqb (usable ceiling lent) room) || ltb room used
 
--- of the blob: or used is not a multiple of 4, or below 56 + 16 × reservations
+-- a place outside the structure: not a multiple of 4, or below 56 + 16 × reservations
+unfoldable pub offStructure : (reservations place : ℕ) → Bool
+offStructure reservations place = not (eqb (place % 4) 0) || ltb place (structureStart reservations)
+
+-- of the blob: or used is a place outside the structure
 unfoldable pub misfitBlob : Record → ℕ → Bool
 misfitBlob w lent =
-    misfitRoom blobCeiling lent (w .«blob_room») (w .«blob_used»)
-    || (not (eqb (w .«blob_used» % 4) 0)
-    || ltb (w .«blob_used») (structureStart (w .reservations)))
+    misfitRoom blobCeiling lent (w .«blob_room») (w .«blob_used») || offStructure (w .reservations) (w .«blob_used»)
 
 -- of the strings: or used is non-zero with a last used byte other than 0
 unfoldable pub misfitStrings : Record → List ℕ → Bool
@@ -29,7 +31,7 @@ misfitStrings w strings =
     misfitRoom stringsCeiling (length strings) (w .«strings_room») (w .«strings_used»)
     || (not (eqb (w .«strings_used») 0) && not (eqb (getD strings (w .«strings_used» - 1) 0) 0))
 
--- of the phandles: no other cause
+-- of the phandles: for no other reason
 unfoldable pub misfitPhandles : Record → ℕ → Bool
 misfitPhandles w lent = misfitRoom phandlesCeiling lent (w .«phandles_room») (w .«phandles_used»)
 

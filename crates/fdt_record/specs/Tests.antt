@@ -10,7 +10,7 @@ use Rattle.fdt_record.specs.Rows.{Row, _⇒_}
 unfoldable pub aloneRows : Record → List Row
 aloneRows w = (w .finished ⇒ Finished) ∷ (misfitRecord w ⇒ Misfit) ∷ []
 
--- and a blob of so many bytes
+-- and a blob of this length
 unfoldable pub blobRows : Record → ℕ → List Row
 blobRows w lent = aloneRows w ++ (misfitBlob w lent ⇒ Misfit) ∷ []
 

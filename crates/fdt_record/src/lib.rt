@@ -5,17 +5,17 @@ ghost use lib.ListN.{length};
 ghost use Rattle.fdt_record.specs.declared.Answer.the-variants.{Done, Misfit};
 ghost use Rattle.fdt_record.specs.Answers.{numberOf, accepts, upon};
 ghost use Rattle.fdt_record.specs.Limits.{usable};
-ghost use Rattle.fdt_record.specs.Misfits.{misfitRecord, misfitRoom, misfitBlob, misfitStrings, misfitPhandles, noRoom, overfull};
+ghost use Rattle.fdt_record.specs.Misfits.{misfitRecord, misfitRoom, offStructure, misfitBlob, misfitStrings, misfitPhandles, noRoom, overfull};
 ghost use Rattle.fdt_record.specs.Rows.{first};
 ghost use Rattle.fdt_record.specs.Tests.{aloneRows, blobRows, stringsRows};
 
-// The longest blob, in bytes.
+// The ceiling of the blob, in bytes.
 pub const BLOB_CEILING: usize = 65_536;
 
-// The most strings, in bytes.
+// The ceiling of the strings, in bytes.
 pub const STRINGS_CEILING: usize = 8_192;
 
-// The most phandles, in entries.
+// The ceiling of the phandles, in entries.
 pub const PHANDLES_CEILING: usize = 256;
 
 // The most reservations.
@@ -24,7 +24,7 @@ pub const MAX_RESERVATIONS: usize = 64;
 // The same max depth as in the Linux kernel.
 pub const FDT_MAX_NODE_DEPTH: usize = 64;
 
-// What a writer knows of its buffers and of the calls so far.
+// What a writer knows of the calls so far and of its buffers: of each the usable length at opening (room) and how much is used.
 #[repr(C)]
 pub struct Record {
     pub blob_room: usize,
@@ -40,27 +40,47 @@ pub struct Record {
     pub finished: bool,
 }
 
-// What a call answers: acceptance, the crate's refusals, and those that are added.
+// What a call answers, with its number: acceptance, the crate's refusals (1 to 13), and the added ones.
 pub enum Answer {
+    // 0: accepted.
     Done,
+    // 1: the depth is 0 and no node was ended last.
     PropertyBeforeBeginNode,
+    // 2: the last accepted begin or end was an end.
     PropertyAfterEndNode,
+    // 3: never given; the number is kept.
     PropertyValueTooLarge,
+    // 4: never given; the number is kept.
     TotalSizeTooLarge,
+    // 5: a byte 0 in a name, or in a string value.
     InvalidString,
+    // 6: the handle differs from the depth, or the depth is 0.
     OutOfOrderEndNode,
+    // 7: finish at a depth above 0.
     UnclosedNode,
+    // 8: a reservation of size 0, or address + size at least 2^64.
     InvalidMemoryReservation,
+    // 9: some address lies in two reservations.
     OverlappingMemoryReservations,
+    // 10: a node name outside the grammar.
     InvalidNodeName,
+    // 11: a property name outside the grammar.
     InvalidPropertyName,
+    // 12: begin at depth 64.
     NodeDepthTooLarge,
+    // 13: the value is already in the table.
     DuplicatePhandle,
+    // 14: the blob has no room for the call's bytes.
     BlobRoom,
+    // 15: the strings have no room for a new name and its 0.
     StringRoom,
+    // 16: the table has no room for a new value.
     PhandleRoom,
+    // 17: the record does not fit the lent buffers, or numbers that belong together do not.
     Misfit,
+    // 18: the record is marked finished.
     Finished,
+    // 19: more than 64 reservations.
     TooManyReservations,
 }
 
@@ -115,14 +135,14 @@ pub fn usable_length(ceiling: usize, length: usize) -> usize
     if length < ceiling { length } else { ceiling }
 }
 
-// Whether depth or reservations are out of their bounds.
+// Whether the depth or the count of reservations is above 64.
 pub fn misfit_record(w: Record) -> bool
     ensures { λ r. ⌜ r ≡ misfitRecord w ⌝ }
 {
     FDT_MAX_NODE_DEPTH < w.node_depth || MAX_RESERVATIONS < w.reservations
 }
 
-// Whether the usable length is another than at opening, or more than it is used.
+// Whether the usable length differs from that at opening, or is below the used length.
 fn misfit_room(ceiling: usize, lent: usize, room: usize, used: usize) -> bool
     ensures { λ r. ⌜ r ≡ misfitRoom ceiling lent room used ⌝ }
 {
@@ -132,20 +152,27 @@ fn misfit_room(ceiling: usize, lent: usize, room: usize, used: usize) -> bool
     room < used
 }
 
-// Whether the record does not fit a blob of so many bytes.
+// Whether a place is outside the structure: not a multiple of 4, or before the structure's start.
+fn off_structure(reservations: usize, place: usize) -> bool
+    ensures { λ r. ⌜ r ≡ offStructure reservations place ⌝ }
+{
+    if place % 4 != 0 {
+        return true;
+    }
+    if place < fdt_header::STRUCTURE_START {
+        return true;
+    }
+    (place - fdt_header::STRUCTURE_START) / fdt_header::RESERVATION_SIZE < reservations
+}
+
+// Whether the record does not fit a blob of this length.
 pub fn misfit_blob(w: Record, lent: usize) -> bool
     ensures { λ r. ⌜ r ≡ misfitBlob w lent ⌝ }
 {
     if misfit_room(BLOB_CEILING, lent, w.blob_room, w.blob_used) {
         return true;
     }
-    if w.blob_used % 4 != 0 {
-        return true;
-    }
-    if w.blob_used < fdt_header::STRUCTURE_START {
-        return true;
-    }
-    (w.blob_used - fdt_header::STRUCTURE_START) / fdt_header::RESERVATION_SIZE < w.reservations
+    off_structure(w.reservations, w.blob_used)
 }
 
 // Whether the record does not fit these strings.
@@ -163,7 +190,7 @@ pub fn misfit_strings(w: Record, strings: &[u8]) -> bool
     strings[last] != 0
 }
 
-// Whether the record does not fit a table of so many phandles.
+// Whether the record does not fit a table of this length.
 pub fn misfit_phandles(w: Record, lent: usize) -> bool
     ensures { λ r. ⌜ r ≡ misfitPhandles w lent ⌝ }
 {
@@ -183,7 +210,7 @@ pub fn alone_tests(w: Record) -> Answer
     Answer::Done
 }
 
-// An answer or, where it is acceptance, 17 for one more misfit.
+// The answer, or 17 if it is acceptance and there is a misfit.
 pub fn or_misfit(answer: Answer, misfit: bool) -> Answer
     ensures { λ r. ⌜ r ≡ upon answer (cond misfit Misfit Done) answer ⌝ }
 {
@@ -196,14 +223,14 @@ pub fn or_misfit(answer: Answer, misfit: bool) -> Answer
     Answer::Done
 }
 
-// The first tests of a call that is lent a blob of so many bytes: also 17 for the blob.
+// The first tests of a call that is lent a blob of this length: also 17 for the blob.
 pub fn blob_tests(w: Record, lent: usize) -> Answer
     ensures { λ r. ⌜ r ≡ first (blobRows w lent) ⌝ }
 {
     or_misfit(alone_tests(w), misfit_blob(w, lent))
 }
 
-// The first tests of a call that is lent such a blob and strings: also 17 for the strings.
+// The first tests of a call that is lent a blob of this length and strings: also 17 for the strings.
 pub fn strings_tests(w: Record, lent: usize, strings: &[u8]) -> Answer
     ensures { λ r. ⌜ r ≡ first (stringsRows w lent (now (strings .entry))) ⌝ }
 {

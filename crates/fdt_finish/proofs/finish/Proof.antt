@@ -1,4 +1,4 @@
--- `finish` meets its contract: where its tests are passed what it writes fits, and else nothing is altered.
+-- `finish` meets its contract: where its tests are passed what it writes fits, and otherwise nothing changes.
 use mathlib.Core.Path.{_≡_, sym, ap, _∙_}
 use mathlib.Core.Bool.{true}
 use native.Mathlib.Omega.{arith}

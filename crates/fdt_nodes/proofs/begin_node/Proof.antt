@@ -1,4 +1,4 @@
--- `begin_node` meets its contract: where its tests are passed the bytes fit, and else nothing is altered.
+-- `begin_node` meets its contract: where its tests are passed the bytes fit, and otherwise nothing changes.
 use mathlib.Core.Path.{_≡_, sym, _∙_}
 use mathlib.Core.Bool.{true}
 use borrow.Author.Tests.{not-true, not-false}

@@ -1,4 +1,4 @@
--- `end_node` meets its contract: where its tests are passed the word fits, and else nothing is altered.
+-- `end_node` meets its contract: where its tests are passed the word fits, and otherwise nothing changes.
 use mathlib.Core.Path.{_≡_, sym, ap, _∙_}
 use mathlib.Core.Bool.{true}
 use borrow.Author.Tests.{not-true, not-false}
