@@ -16,7 +16,7 @@ use Rattle.fdt_record.specs.declared.Answer.{Answer}
 use Rattle.fdt_record.specs.declared.Record.{Record}
 use Rattle.fdt_record.specs.Answers.{accepts, upon}
 use Rattle.fdt_record.specs.Limits.{blobCeiling, stringsCeiling, usable}
-use Rattle.fdt_record.specs.Misfits.{misfitRoom, misfitBlob, misfitStrings}
+use Rattle.fdt_record.specs.Misfits.{misfitRoom, offStructure, misfitBlob, misfitStrings}
 use Rattle.fdt_promises.specs.Effects.{SameUsable}
 
 -- the usable part's length
@@ -86,7 +86,7 @@ same-set ceiling i v xs ys e h =
 pub same-misfit-blob : (w : Record) (xs ys : List ℕ) → SameUsable blobCeiling xs ys → misfitBlob w (length xs) ≡ misfitBlob w (length ys)
 unfolding misfitBlob misfitRoom
 same-misfit-blob w xs ys e =
-    ap (λ (n : ℕ). (not (eqb n (w .«blob_room»)) || ltb (w .«blob_room») (w .«blob_used»)) || (not (eqb (w .«blob_used» % 4) 0) || ltb (w .«blob_used») (structureStart (w .reservations)))) (same-length blobCeiling xs ys e)
+    ap (λ (n : ℕ). (not (eqb n (w .«blob_room»)) || ltb (w .«blob_room») (w .«blob_used»)) || offStructure (w .reservations) (w .«blob_used»)) (same-length blobCeiling xs ys e)
 
 -- strings are judged by their usable part alone
 pub same-misfit-strings : (w : Record) (xs ys : List ℕ) → SameUsable stringsCeiling xs ys → misfitStrings w xs ≡ misfitStrings w ys
