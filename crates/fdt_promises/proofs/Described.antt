@@ -4,8 +4,7 @@ use mathlib.Core.Bool.{false}
 use mathlib.Core.List.{List, [], _∷_}
 use mathlib.Core.Logic.{_↔_}
 use mathlib.Core.Option.{some, Option·some-injective}
-use Prim.Native.Nat.{ℕ, _+_, _<_, _^_}
-use lib.Dec.{lit<}
+use Prim.Native.Nat.{ℕ, _+_}
 use lib.ListN.{length}
 use Rattle.fdt_strings.specs.Entries.{joined}
 use Rattle.fdt_values.specs.Value.{Value, valueBytes}
@@ -25,7 +24,7 @@ use Rattle.fdt_promises.specs.Run.{phandlesOf, told, tells, eventsOf, bo
 use Rattle.fdt_promises.proofs.Ended.{count-paired, shown-bytes, nodes-told, well-formed}
 use Rattle.fdt_promises.proofs.Fitting.{open-fits, only-given}
 use Rattle.fdt_promises.proofs.Held.{Open}
-use Rattle.fdt_promises.proofs.Runs.{opened-open, runs-open, boot-small}
+use Rattle.fdt_promises.proofs.Runs.{opened-open, runs-open}
 
 -- the description of a run, which the format can hold, and its bytes
 record Told (r : Run) : Type 0 where
@@ -55,10 +54,6 @@ module _ (r : Run) where
   unfolding answer
   opening-fits = opened-fits (length (r .before .blob)) _ _ (r .numbers) (r .opened)
 
-  boot-fits : bootOf (history r) < 2 ^ 32
-  unfolding history bootOf
-  boot-fits = boot-small (allAsk (r .calls)) (r .between) (opened-desk r) 0 (lit< tt)
-
   module _ (f : Finishes r) where
     -- at its end it is open
     at-end : Open (r .numbers) (eventsOf (history r)) (bootOf (history r)) (phandlesOf (allAsk (r .calls)) (opened-desk r)) (desk r)
@@ -77,7 +72,7 @@ module _ (r : Run) where
           told = record { reservations = reservationsOf (r .numbers); boot = bootOf (history r); nodes = n .0 };
           is = ap (withNodes (reservationsOf (r .numbers)) (bootOf (history r))) (n .1);
           bytes = shown-from ∙ ap (blobFrom (reservationsOf (r .numbers)) (bootOf (history r))) (sym (n .2));
-          fits = well-formed at-end f (opening-fits .even) (opening-fits .valid) boot-fits (n .0) (n .2);
+          fits = well-formed at-end f (opening-fits .even) (opening-fits .valid) (at-end .small) (n .0) (n .2);
         }
 
     pub run-shown : (d : Description) × (description r ≡ some d) × (blob r ≡ blobOf d)

@@ -2,7 +2,7 @@
 use mathlib.Core.Path.{_≡_, refl, sym, ap, subst, _∙_}
 use mathlib.Core.Bool.{Bool, true, false, true≢false}
 use mathlib.Core.List.{List, [], _∷_, _++_, append-assoc, append-nil}
-use Prim.Native.Nat.{ℕ, _+_, _-_, _≤_}
+use Prim.Native.Nat.{ℕ, _+_, _-_, _≤_, _<_, _^_}
 use native.Mathlib.Omega.{arith}
 use lib.ListN.{length}
 use Rattle.fdt_bytes.specs.Padding.{zeros}
@@ -36,11 +36,12 @@ use Rattle.fdt_promises.specs.Run.{Filled, Holds, told, tells, bootAfter
 use Rattle.fdt_promises.proofs.Desks.{grown, booted-after, begun-after, ended-after, had-after, marked-answer, marked-after, finished-after, refused-mark, refused-after}
 use Rattle.fdt_promises.proofs.Growth.{more-filled, one-filled, no-zero, named, plain-snoc, size-snoc, depth-snoc, ended-snoc, Follows, still-shallow, still-accepted}
 
--- what an open run holds, and what its accepted calls were: at most 64 reservations and 64 open nodes, names without a byte 0,
--- and events that nodes can go on from
+-- what an open run holds, and what its accepted calls were: at most 64 reservations, a boot number of 32 bits, at most 64
+-- open nodes, names without a byte 0, and events that nodes can go on from
 pub record Open (numbers : List ℕ) (es : List Event) (boot : ℕ) (marks : List ℕ) (s : Desk) : Type 0 where
   pub holds : Holds numbers es boot marks s
   pub few : count numbers ≤ mostReservations
+  pub small : boot < 2 ^ 32
   pub shallow : s .writer .«node_depth» ≤ mostDepth
   pub plain : AllPlain es
   pub leads : (rest : List Event) → Accepted (s .writer .«node_depth») (s .writer .«node_ended») rest → Accepted 0 false (es ++ rest)
@@ -81,6 +82,7 @@ module _ {numbers : List ℕ} {es : List Event} {boot : ℕ} {marks : List ℕ} 
           reservations = h .reservations;
         };
         few = o .few;
+        small = o .small;
         shallow = still-shallow (w .«node_depth») (w .«node_ended») e (a .follows) (o .shallow);
         plain = plain-snoc es e (o .plain) (a .plain);
         leads = λ rest r. subst (Accepted 0 false) (sym (append-assoc es (e ∷ []) rest)) (o .leads (e ∷ rest) (still-accepted (w .«node_depth») (w .«node_ended») e rest (a .follows) r));
@@ -140,8 +142,8 @@ module _ {numbers : List ℕ} {es : List Event} {boot : ℕ} {marks : List ℕ} 
   -- ---- no event
 
   -- another boot number and other phandles: the rest is as it was
-  carried-open : (n count : ℕ) {m : ℕ} {values phandles : List ℕ} → n ≡ m → Filled phandlesCeiling values (s .writer .«phandles_room») count phandles → Open numbers es m values (withWriter (withBoot n (withUsedPhandles count (s .writer))) (withPhandles phandles s))
-  carried-open n count q f =
+  carried-open : (n count : ℕ) {m : ℕ} {values phandles : List ℕ} → n ≡ m → m < 2 ^ 32 → Filled phandlesCeiling values (s .writer .«phandles_room») count phandles → Open numbers es m values (withWriter (withBoot n (withUsedPhandles count (s .writer))) (withPhandles phandles s))
+  carried-open n count q l f =
       let h = o .holds in
       record {
         holds = record {
@@ -156,20 +158,21 @@ module _ {numbers : List ℕ} {es : List Event} {boot : ℕ} {marks : List ℕ} 
           reservations = h .reservations;
         };
         few = o .few;
+        small = l;
         shallow = o .shallow;
         plain = o .plain;
         leads = o .leads;
       }
 
-  booted-open : (n : ℕ) → answer (to-boot n) s ≡ Done → Open numbers es n marks (after (to-boot n) s)
-  booted-open n e = subst (Open numbers es n marks) (sym (booted-after s n e)) (carried-open n (s .writer .«phandles_used») refl (o .holds .marks))
+  booted-open : (n : ℕ) → n < 2 ^ 32 → answer (to-boot n) s ≡ Done → Open numbers es n marks (after (to-boot n) s)
+  booted-open n l e = subst (Open numbers es n marks) (sym (booted-after s n e)) (carried-open n (s .writer .«phandles_used») refl l (o .holds .marks))
 
   -- a phandle's value is recorded
   pub marked-open : (value : ℕ) → markAnswer value s ≡ Done → Open numbers es boot (marks ++ (value ∷ [])) (marked s value)
   unfolding recorded
   marked-open value e =
       let f = record-fits (s .writer) (length (s .blob)) (s .strings) (s .phandles) value e in
-      carried-open (s .writer .«boot_cpuid_phys») (s .writer .«phandles_used» + 1) (o .holds .boot-number) (one-filled (o .holds .marks) value (f .room))
+      carried-open (s .writer .«boot_cpuid_phys») (s .writer .«phandles_used» + 1) (o .holds .boot-number) (o .small) (one-filled (o .holds .marks) value (f .room))
 
 -- ---- one call more
 
@@ -210,7 +213,7 @@ module _ {numbers : List ℕ} {es : List Event} {boot : ℕ} {marks : List ℕ} 
   pub accepted-open : (c : Request) → InRun (effect c) → answer c s ≡ Done → after c s .writer .finished ≡ false → Open numbers (es ++ tells c) (boots boot c) (marks ++ recordedBy (effect c) s) (after c s)
   unfolding InRun effect told bootAfter recordedBy finishedRecord after
   accepted-open (to-open ns) i e u = absurd i
-  accepted-open (to-boot n) i e u = unmarked (silent (booted-open o n e))
+  accepted-open (to-boot n) i e u = unmarked (silent (booted-open o n i e))
   accepted-open (to-begin name) i e u = unmarked (begun-open o name e)
   accepted-open (to-end handle) i e u = unmarked (ended-open o handle e)
   accepted-open (to-have name v) i e u = unmarked (had-open o name v e)

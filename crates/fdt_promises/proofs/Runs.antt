@@ -2,8 +2,9 @@
 use mathlib.Core.Path.{_≡_, refl, sym, ap, subst, _∙_}
 use mathlib.Core.Bool.{Bool, true, false}
 use mathlib.Core.List.{List, [], _∷_, _++_, append-assoc, append-nil, foldl}
-use Prim.Native.Nat.{ℕ, _+_, _<_, _^_}
+use Prim.Native.Nat.{ℕ, _+_, _<_}
 use native.Mathlib.Omega.{arith}
+use lib.Dec.{lit<}
 use lib.ListN.{length}
 use Rattle.fdt_bytes.specs.Padding.{zeros}
 use Rattle.fdt_strings.specs.Entries.{joined}
@@ -24,8 +25,8 @@ use Rattle.fdt_properties.specs.Property.{stateRows, propertyRows, propertyAnsw
 use Rattle.fdt_phandles.specs.Phandle.{recordRows, recordAnswer}
 use Rattle.fdt_finish.specs.Boot.{bootAnswer}
 use Rattle.fdt_finish.specs.Finish.{finishRows, finishAnswer}
-use Rattle.fdt_promises.specs.Calls.{Request, to-open, to-boot, to-begin, to-end, to-have, to-mark, to-finish, to-show, Effect, opens, sets-boot, adds, records, nothing, effect, Desk, answer, after, markAnswer, marked, leftBy}
-use Rattle.fdt_promises.specs.Run.{runs, accepted, recordedBy, phandlesOf, tells, eventsOf, bootAfter, boots, depthOf, endedOf, InRun, AllInRun}
+use Rattle.fdt_promises.specs.Calls.{Request, to-open, to-boot, to-begin, to-end, to-have, to-mark, to-finish, to-show, effect, Desk, answer, after, markAnswer, marked, leftBy}
+use Rattle.fdt_promises.specs.Run.{runs, accepted, recordedBy, phandlesOf, tells, eventsOf, boots, depthOf, endedOf, InRun, AllInRun}
 use Rattle.fdt_promises.proofs.Desks.{opened-after, refused-after, refused-mark}
 use Rattle.fdt_promises.proofs.Growth.{none-filled, more-filled}
 use Rattle.fdt_promises.proofs.Held.{Open, accepted-open, refused-open}
@@ -53,6 +54,7 @@ opened-open s numbers e =
         reservations = refl;
       };
       few = f .few;
+      small = lit< tt;
       shallow = omega arith;
       plain = tt;
       leads = λ rest a. a;
@@ -94,8 +96,7 @@ module _ {numbers : List ℕ} where
   pub runs-open : (cs : List Request) → AllInRun cs → {es : List Event} {boot : ℕ} {marks : List ℕ} {s : Desk} → Open numbers es boot marks s → runs cs s .writer .finished ≡ false → Open numbers (es ++ eventsOf (accepted cs s)) (foldl boots boot (accepted cs s)) (marks ++ phandlesOf cs s) (runs cs s)
   unfolding runs accepted phandlesOf eventsOf AllInRun
   runs-open [] i {es} {boot} {marks} {s} o u =
-      subst (λ (l : List Event). Open numbers l boot (marks ++ []) s) (sym (append-nil es))
-      (subst (λ (l : List ℕ). Open numbers es boot l s) (sym (append-nil marks)) o)
+      rw (append-nil es, append-nil marks) o
   runs-open (c ∷ cs) i {es} {boot} {marks} {s} o u = go (accepts (answer c s)) refl (λ o′. runs-open cs (i .1) o′ u) (λ o′. runs-open cs (i .1) o′ u)
     where
       later : List Request
@@ -111,28 +112,8 @@ module _ {numbers : List ℕ} where
           Open numbers (es ++ eventsOf (upon (answer c s) (c ∷ later) later)) (foldl boots boot (upon (answer c s) (c ∷ later) later)) (marks ++ (recordedBy (effect c) s ++ marked-later)) (runs cs (after c s))
       go true t taken left =
           let d = accepts-done (answer c s) t in
-          let p = taken (accepted-open o c (i .0) d (open-before cs (i .1) (after c s) u)) in
-          subst (λ (l : List Request). Open numbers (es ++ eventsOf l) (foldl boots boot l) (marks ++ (recordedBy (effect c) s ++ marked-later)) (runs cs (after c s))) (sym (upon-done _ _ _ d))
-          (subst (λ (l : List Event). Open numbers l (foldl boots (boots boot c) later) (marks ++ (recordedBy (effect c) s ++ marked-later)) (runs cs (after c s))) (append-assoc es (tells c) (eventsOf later))
-          (subst (λ (l : List ℕ). Open numbers ((es ++ tells c) ++ eventsOf later) (foldl boots (boots boot c) later) l (runs cs (after c s))) (append-assoc marks (recordedBy (effect c) s) marked-later) p))
+          rw (upon-done (answer c s) (c ∷ later) later d, ← append-assoc es (tells c) (eventsOf later), ← append-assoc marks (recordedBy (effect c) s) marked-later)
+          (taken (accepted-open o c (i .0) d (open-before cs (i .1) (after c s) u)))
       go false t taken left =
-          let p = left (refused-open o c (i .0) t) in
-          subst (λ (l : List Request). Open numbers (es ++ eventsOf l) (foldl boots boot l) (marks ++ (recordedBy (effect c) s ++ marked-later)) (runs cs (after c s))) (sym (upon-refused _ _ _ t))
-          (subst (λ (l : List ℕ). Open numbers (es ++ eventsOf later) (foldl boots boot later) l (runs cs (after c s))) (append-assoc marks (recordedBy (effect c) s) marked-later) p)
-
--- a boot number of a run has 32 bits
-pub boot-small : (cs : List Request) → AllInRun cs → (s : Desk) (boot : ℕ) → boot < 2 ^ 32 → foldl boots boot (accepted cs s) < 2 ^ 32
-unfolding AllInRun accepted bootAfter InRun
-boot-small [] i s boot h = h
-boot-small (c ∷ cs) i s boot h = go (accepts (answer c s)) refl (boot-small cs (i .1) (after c s) (boots boot c) (one (effect c) (i .0))) (boot-small cs (i .1) (after c s) boot h)
-  where
-    one : (x : Effect) → InRun x → bootAfter boot x < 2 ^ 32
-    one opens i = h
-    one (sets-boot n) i = i
-    one (adds e) i = h
-    one (records value) i = h
-    one nothing i = h
-
-    go : (b : Bool) → accepts (answer c s) ≡ b → foldl boots (boots boot c) (accepted cs (after c s)) < 2 ^ 32 → foldl boots boot (accepted cs (after c s)) < 2 ^ 32 → foldl boots boot (upon (answer c s) (c ∷ accepted cs (after c s)) (accepted cs (after c s))) < 2 ^ 32
-    go true t p q = subst (λ (l : List Request). foldl boots boot l < 2 ^ 32) (sym (upon-done _ _ _ (accepts-done _ t))) p
-    go false t p q = subst (λ (l : List Request). foldl boots boot l < 2 ^ 32) (sym (upon-refused _ _ _ t)) q
+          rw (upon-refused (answer c s) (c ∷ later) later t, ← append-assoc marks (recordedBy (effect c) s) marked-later)
+          (left (refused-open o c (i .0) t))

@@ -36,7 +36,7 @@ pub data Call : Type 0 where
   finish : Call
   show : Call
 
--- what a call asks for: the kinds of a property are one, with a value
+-- what a call asks for: every kind of property call is the same request, with a value
 pub data Request : Type 0 where
   to-open : List ℕ → Request
   to-boot : ℕ → Request
@@ -66,7 +66,7 @@ asks (property-phandle value) = to-mark value
 asks finish = to-finish
 asks show = to-show
 
--- what a request does beside its answer and its bytes
+-- the effect of a request beside its answer and its bytes
 pub data Effect : Type 0 where
   opens : Effect
   sets-boot : ℕ → Effect
@@ -74,7 +74,7 @@ pub data Effect : Type 0 where
   records : ℕ → Effect
   nothing : Effect
 
--- what each request does; a phandle's value is recorded, and then it is a property
+-- the effect of each request; a phandle's value is recorded before the call goes on as a property
 unfoldable pub effect : Request → Effect
 effect (to-open numbers) = opens
 effect (to-boot n) = sets-boot n
@@ -105,7 +105,7 @@ withStrings strings s = record { writer = s .writer; blob = s .blob; strings = s
 abbrev pub withPhandles : List ℕ → Desk → Desk
 withPhandles phandles s = record { writer = s .writer; blob = s .blob; strings = s .strings; phandles = phandles }
 
--- what is answered; showing is never refused
+-- the answer; showing is never refused
 unfoldable pub answer : Request → Desk → Answer
 answer (to-open numbers) s = of-opening.openingAnswer (length (s .blob)) (length (s .strings)) (length (s .phandles)) numbers
 answer (to-boot n) s = of-boot.bootAnswer (s .writer)
@@ -116,7 +116,7 @@ answer (to-mark value) s = of-phandle.phandle (s .writer) (length (s .blob)) (s 
 answer to-finish s = of-finish.finishAnswer (s .writer) (length (s .blob)) (s .strings)
 answer to-show s = Done
 
--- the record that is handed back, and the buffers afterwards
+-- the record that is returned, and the buffers afterwards
 unfoldable pub after : Request → Desk → Desk
 after (to-open numbers) s =
     withWriter (of-opening.opening (length (s .blob)) (length (s .strings)) (length (s .phandles)) numbers .after)
@@ -149,8 +149,8 @@ abbrev pub marked : Desk → ℕ → Desk
 marked s value =
     withWriter (of-phandle.recorded (s .writer)) (withPhandles (set (s .phandles) (s .writer .«phandles_used») value) s)
 
--- what a refused call leaves, by what it does: nothing is altered. A refused opening, which takes no record, hands back the
--- closed one. The one exception is a phandle call that passed 13 and 16: its value is recorded.
+-- what a refused call leaves, by its effect: nothing is altered. A refused opening, which takes no record, returns the closed one.
+-- The one exception is a phandle call that passed 13 and 16: its value stays recorded.
 unfoldable pub leftBy : Effect → Desk → Desk
 leftBy opens s = withWriter of-opening.closedRecord s
 leftBy (sets-boot n) s = s

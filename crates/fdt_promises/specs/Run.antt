@@ -23,17 +23,17 @@ use Rattle.fdt_promises.specs.Calls.{Call, new-with-mem-reserv, property
 
 -- ---- calls one after the other
 
--- what they leave
+-- what calls leave
 unfoldable pub runs : List Request → Desk → Desk
 runs [] s = s
 runs (c ∷ cs) s = runs cs (after c s)
 
--- those of them that are accepted
+-- the calls that are accepted
 unfoldable pub accepted : List Request → Desk → List Request
 accepted [] s = []
 accepted (c ∷ cs) s = upon (answer c s) (c ∷ accepted cs (after c s)) (accepted cs (after c s))
 
--- the values that a call records, by what it does: a phandle's once 13 and 16 are passed, accepted or not
+-- the values that a call records: that of a phandle call that passed 13 and 16, even if the call is then refused
 unfoldable pub recordedBy : Effect → Desk → List ℕ
 recordedBy opens s = []
 recordedBy (sets-boot n) s = []
@@ -48,7 +48,7 @@ phandlesOf (c ∷ cs) s = recordedBy (effect c) s ++ phandlesOf cs (after c s)
 
 -- ---- what accepted calls describe
 
--- the event that an accepted call is, by what it does
+-- the events that an accepted call adds, by its effect
 unfoldable pub told : Effect → List Event
 told opens = []
 told (sets-boot n) = []
@@ -56,7 +56,7 @@ told (adds e) = e ∷ []
 told (records value) = has (phandleName ≔ valueBytes (phandleValue value)) ∷ []
 told nothing = []
 
--- the event that an accepted call is
+-- the events that an accepted call adds
 abbrev pub tells : Request → List Event
 tells c = told (effect c)
 
@@ -65,7 +65,7 @@ unfoldable pub eventsOf : List Request → List Event
 eventsOf [] = []
 eventsOf (c ∷ cs) = tells c ++ eventsOf cs
 
--- the boot number after an accepted call, by what it does
+-- the boot number after an accepted call, by its effect
 unfoldable pub bootAfter : ℕ → Effect → ℕ
 bootAfter n opens = n
 bootAfter n (sets-boot m) = m
@@ -81,22 +81,22 @@ boots n c = bootAfter n (effect c)
 unfoldable pub bootOf : List Request → ℕ
 bootOf cs = foldl boots 0 cs
 
--- reservations of numbers, address and size in turn
+-- the reservations that numbers stand for, address and size in turn
 unfoldable pub reservationsOf : List ℕ → List Reservation
 reservationsOf [] = []
 reservationsOf (address ∷ []) = []
 reservationsOf (address ∷ size ∷ numbers) = reserved address size ∷ reservationsOf numbers
 
--- a description with these nodes, where there are such
+-- a description with these nodes, if there are any to describe
 unfoldable pub withNodes : List Reservation → ℕ → Option Nodes → Option Description
 withNodes rs n none = none
 withNodes rs n (some nodes) = some (record { reservations = rs; boot = n; nodes = nodes })
 
--- what an opening with these numbers and accepted calls describe
+-- what an opening with these numbers and these accepted calls describe
 unfoldable pub describe : List ℕ → List Request → Option Description
 describe numbers cs = withNodes (reservationsOf numbers) (bootOf cs) (nodesOf (eventsOf cs))
 
--- ---- what stands after every call
+-- ---- what holds after every call
 
 -- the depth after an event
 unfoldable pub deepens : ℕ → Event → ℕ
@@ -118,23 +118,24 @@ depthOf es = foldl deepens 0 es
 unfoldable pub endedOf : List Event → Bool
 endedOf es = foldl closes false es
 
--- a buffer whose used part has these contents
+-- a buffer whose used part has these contents; the record has its usable length, `room`, and its used length, `used`
 pub record Filled (ceiling : ℕ) (contents : List ℕ) (room used : ℕ) (buffer : List ℕ) : Type 0 where
   pub part : take used buffer ≡ contents
   pub counted : used ≡ length contents
-  -- the usable length is that at opening, and no more is used
+  -- the usable length is still that at opening, and no more is used
   pub opened : room ≡ usable ceiling (length buffer)
   pub within : used ≤ room
 
--- what a desk holds while a run is open: of an opening's numbers, the accepted calls' events and boot number, and the recorded phandles
+-- what a desk holds while a run is open, for the opening's numbers, the accepted calls' events and boot number, and the recorded phandles
 pub record Holds (numbers : List ℕ) (es : List Event) (boot : ℕ) (phandles : List ℕ) (s : Desk) : Type 0 where
   pub unfinished : s .writer .finished ≡ false
   -- the blob: 40 zeros, the reservations and the bytes of the accepted calls, in order
   pub blob : Filled blobCeiling (zeros headerSize ++ (reservationBytes numbers ++ structureBytes (namesOf es) es)) (s .writer .«blob_room») (s .writer .«blob_used») (s .blob)
-  -- 56 plus 16 for each reservation plus the sizes of the accepted calls
+  -- its used length: 56, plus 16 for each reservation, plus the sizes of the accepted calls
   pub used : s .writer .«blob_used» ≡ structureStart (count numbers) + eventsSize es
   -- the strings: each name once, whole, in order of first accepted use
   pub strings : Filled stringsCeiling (joined (namesOf es)) (s .writer .«strings_room») (s .writer .«strings_used») (s .strings)
+  -- the phandles: the recorded values, in order
   pub marks : Filled phandlesCeiling phandles (s .writer .«phandles_room») (s .writer .«phandles_used») (s .phandles)
   pub depth : s .writer .«node_depth» ≡ depthOf es
   pub ended : s .writer .«node_ended» ≡ endedOf es
@@ -143,7 +144,7 @@ pub record Holds (numbers : List ℕ) (es : List Event) (boot : ℕ) (phandles :
 
 -- ---- a run
 
--- no opening among calls, and boot numbers of 32 bits, as the call's type has them
+-- a call that may stand in a run: no opening, and a boot number of 32 bits, as the argument's type has it
 unfoldable pub InRun : Effect → Type 0
 InRun opens = ⊥
 InRun (sets-boot n) = n < 2 ^ 32
@@ -151,7 +152,7 @@ InRun (adds e) = Unit {0}
 InRun (records value) = Unit {0}
 InRun nothing = Unit {0}
 
--- of every call
+-- every call may
 unfoldable pub AllInRun : List Request → Type 0
 AllInRun [] = Unit {0}
 AllInRun (c ∷ cs) = InRun (effect c) × AllInRun cs
@@ -161,7 +162,7 @@ unfoldable pub allAsk : List Call → List Request
 allAsk [] = []
 allAsk (c ∷ cs) = asks c ∷ allAsk cs
 
--- an opening that is accepted, over any record and buffers of any sizes and contents, and calls after it
+-- an accepted opening, over any record and buffers of any size and contents, and the calls after it
 pub record Run : Type 0 where
   pub before : Desk
   pub numbers : List ℕ
@@ -195,14 +196,14 @@ blob r = shown (after to-finish (desk r) .writer) (after to-finish (desk r) .blo
 
 -- ---- misfit 17
 
--- a record fits the buffers that it was opened over: no test of 17 finds fault with them
+-- the record fits the buffers: no test of 17 holds
 pub record Fits (s : Desk) : Type 0 where
   pub figures : misfitRecord (s .writer) ≡ false
   pub blob : misfitBlob (s .writer) (length (s .blob)) ≡ false
   pub strings : misfitStrings (s .writer) (s .strings) ≡ false
   pub phandles : misfitPhandles (s .writer) (length (s .phandles)) ≡ false
 
--- what a call is given does not fit together: an odd count of reservation numbers, or string-list lengths that don't sum to the bytes given
+-- a call whose own arguments are refused 17: an odd count of reservation numbers, or string-list lengths that don't sum to the bytes given
 pub data Misgiven : Call → Type 0 where
   odd-count : (numbers : List ℕ) → length numbers % 2 ≡ 1 → Misgiven (new-with-mem-reserv numbers)
   other-sum : (name joined lengths : List ℕ) → (sum lengths ≡ length joined → ⊥) → Misgiven (property-string-list name joined lengths)
