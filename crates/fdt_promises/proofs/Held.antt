@@ -178,11 +178,11 @@ module _ {numbers : List ℕ} {es : List Event} {boot : ℕ} {marks : List ℕ} 
 
 -- nothing is recorded
 unmarked : {numbers : List ℕ} {es : List Event} {boot : ℕ} {marks : List ℕ} {d : Desk} → Open numbers es boot marks d → Open numbers es boot (marks ++ []) d
-unmarked {numbers} {es} {boot} {marks} {d} o = subst (λ (l : List ℕ). Open numbers es boot l d) (sym (append-nil marks)) o
+unmarked {marks = marks} o = rw (append-nil marks) o
 
 -- nothing is told
 silent : {numbers : List ℕ} {es : List Event} {boot : ℕ} {marks : List ℕ} {d : Desk} → Open numbers es boot marks d → Open numbers (es ++ []) boot marks d
-silent {numbers} {es} {boot} {marks} {d} o = subst (λ (l : List Event). Open numbers l boot marks d) (sym (append-nil es)) o
+silent {es = es} o = rw (append-nil es) o
 
 module _ {numbers : List ℕ} {es : List Event} {boot : ℕ} {marks : List ℕ} {s : Desk} (o : Open numbers es boot marks s) where
   -- an accepted phandle: its value is recorded, and it is a property

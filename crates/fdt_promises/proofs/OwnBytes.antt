@@ -1,4 +1,4 @@
--- An accepted call changes only its own bytes, and these lie inside the usable length.
+-- An accepted call changes only its own bytes, and they lie inside the usable length.
 use mathlib.Core.Path.{_≡_, refl, sym, ap, subst, _∙_}
 use mathlib.Core.Bool.{false, true≢false}
 use mathlib.Core.List.{List}
@@ -23,7 +23,7 @@ use Rattle.fdt_record.specs.declared.Outcome.{Outcome}
 use Rattle.fdt_record.specs.declared.Record.{Record}
 use Rattle.fdt_record.specs.Limits.{blobCeiling, stringsCeiling, usable}
 use Rattle.fdt_record.proofs.Answers.{upon-done}
-use Rattle.fdt_record.proofs.Fits.{FitStrings}
+use Rattle.fdt_record.proofs.Fits.{FitBlob, FitStrings}
 use Rattle.fdt_properties.specs.Property.{placeOf, isFull, placeOffset, added, stored, written, propertyAnswer, property, propertyBlob, propertyStrings, PropertyOutcome}
 use Rattle.fdt_properties.proofs.Places.{settled}
 use Rattle.fdt_properties.proofs.Property.{property-fits}
@@ -51,37 +51,38 @@ kept-splice at bs xs h =
 pub own-opening : {blob : List ℕ} {strings phandles : ℕ} {numbers : List ℕ} {r : Outcome} {a : List ℕ} → OpeningOutcome blob strings phandles numbers r a → r .answer ≡ Done → KeptOutside 0 (length (openingBytes numbers)) blob a × (length (openingBytes numbers) ≤ usable blobCeiling (length blob))
 unfolding opening
 own-opening {blob} {strings} {phandles} {numbers} p e =
-    let told : openingAnswer (length blob) strings phandles numbers ≡ Done = ap (λ (o : Outcome). o .answer) (sym (p .result)) ∙ e in
-    let f = opened-fits (length blob) strings phandles numbers told in
+    let accepted : openingAnswer (length blob) strings phandles numbers ≡ Done = ap (λ (o : Outcome). o .answer) (sym (p .result)) ∙ e in
+    let f = opened-fits (length blob) strings phandles numbers accepted in
     let n = length-openingBytes numbers in
     let k = kept-splice 0 (openingBytes numbers) blob (omega (arith, n, f .room)) in (
-      subst (λ (l : List ℕ). KeptOutside 0 (length (openingBytes numbers)) blob l) (sym (p .bytes ∙ accepted-blob blob strings phandles numbers told))
+      subst (λ (l : List ℕ). KeptOutside 0 (length (openingBytes numbers)) blob l) (sym (p .bytes ∙ accepted-blob blob strings phandles numbers accepted))
           (record { kept-length = k .kept-length; kept = λ i o. k .kept i (⊎-map (λ l. l) (λ l. omega arith) o) }),
       omega (arith, n, f .even, f .started),
     )
+
+-- bytes from the used length on, in a blob that the record fits
+own-splice : (w : Record) (blob bs : List ℕ) {a : List ℕ} → FitBlob w (length blob) → w .«blob_used» + length bs ≤ w .«blob_room» → a ≡ splice (w .«blob_used») bs blob →
+    KeptOutside (w .«blob_used») (w .«blob_used» + length bs) blob a × (w .«blob_used» + length bs ≤ usable blobCeiling (length blob))
+own-splice w blob bs f room e = (
+  subst (KeptOutside (w .«blob_used») (w .«blob_used» + length bs) blob) (sym e) (kept-splice (w .«blob_used») bs blob (omega (arith, f .within))),
+  omega (arith, f .room),
+)
 
 -- begin: its bytes from the used length on
 pub own-begin : {w : Record} {blob name : List ℕ} {r : Begun} {a : List ℕ} → BeginOutcome w blob name r a → r .answer ≡ Done → KeptOutside (w .«blob_used») (w .«blob_used» + length (beginBytes name)) blob a × (w .«blob_used» + length (beginBytes name) ≤ usable blobCeiling (length blob))
 unfolding begin beginBlob
 own-begin {w} {blob} {name} p e =
-    let told : beginAnswer w (length blob) name ≡ Done = ap (λ (o : Begun). o .answer) (sym (p .result)) ∙ e in
-    let f = begin-fits w (length blob) name told in (
-      subst (KeptOutside (w .«blob_used») (w .«blob_used» + length (beginBytes name)) blob) (sym (p .bytes ∙ upon-done _ _ _ told))
-          (kept-splice (w .«blob_used») (beginBytes name) blob (omega (arith, f .room, f .blob .within))),
-      omega (arith, f .blob .room, f .room),
-    )
+    let accepted : beginAnswer w (length blob) name ≡ Done = ap (λ (o : Begun). o .answer) (sym (p .result)) ∙ e in
+    let f = begin-fits w (length blob) name accepted in
+    own-splice w blob (beginBytes name) (f .blob) (f .room) (p .bytes ∙ upon-done _ _ _ accepted)
 
 -- end: its word at the used length
 pub own-end : {w : Record} {blob : List ℕ} {handle : ℕ} {r : Outcome} {a : List ℕ} → EndOutcome w blob handle r a → r .answer ≡ Done → KeptOutside (w .«blob_used») (w .«blob_used» + length endBytes) blob a × (w .«blob_used» + length endBytes ≤ usable blobCeiling (length blob))
 unfolding end endBlob
 own-end {w} {blob} {handle} p e =
-    let told : endAnswer w (length blob) handle ≡ Done = ap (λ (o : Outcome). o .answer) (sym (p .result)) ∙ e in
-    let f = end-fits w (length blob) handle told in
-    let room : w .«blob_used» + length endBytes ≤ w .«blob_room» = omega (arith, f .room, length-end) in (
-      subst (KeptOutside (w .«blob_used») (w .«blob_used» + length endBytes) blob) (sym (p .bytes ∙ upon-done _ _ _ told))
-          (kept-splice (w .«blob_used») endBytes blob (omega (arith, room, f .blob .within))),
-      omega (arith, f .blob .room, room),
-    )
+    let accepted : endAnswer w (length blob) handle ≡ Done = ap (λ (o : Outcome). o .answer) (sym (p .result)) ∙ e in
+    let f = end-fits w (length blob) handle accepted in
+    own-splice w blob endBytes (f .blob) (omega (arith, f .room, length-end)) (p .bytes ∙ upon-done _ _ _ accepted)
 
 -- what storing a name at its place does to strings that the record fits
 kept-stored : (w : Record) (strings name : List ℕ) → FitStrings w strings → isFull (placeOf w strings name) ≡ false → KeptOutside (w .«strings_used») (w .«strings_used» + added (placeOf w strings name) name) strings (stored (placeOf w strings name) name strings)
@@ -104,17 +105,15 @@ pub own-property : {w : Record} {blob strings name : List ℕ} {v : Value} {r : 
     × KeptOutside (w .«strings_used») (w .«strings_used» + added (placeOf w strings name) name) strings b × (w .«strings_used» + added (placeOf w strings name) name ≤ usable stringsCeiling (length strings))
 unfolding property propertyBlob propertyStrings written
 own-property {w} {blob} {strings} {name} {v} p e =
-    let told : propertyAnswer w (length blob) strings name v ≡ Done = ap (λ (o : Outcome). o .answer) (sym (p .result)) ∙ e in
-    let f = property-fits w (length blob) strings name v told in
+    let accepted : propertyAnswer w (length blob) strings name v ≡ Done = ap (λ (o : Outcome). o .answer) (sym (p .result)) ∙ e in
+    let f = property-fits w (length blob) strings name v accepted in
     let n = length-property (placeOffset (placeOf w strings name)) (valueBytes v) in
-    let room : w .«blob_used» + length (written w strings name v) ≤ w .«blob_room» = omega (arith, f .room, n) in
-    let g = settled w strings name (f .names) (f .placed) in (
-      subst (KeptOutside (w .«blob_used») (w .«blob_used» + length (written w strings name v)) blob) (sym (p .bytes ∙ upon-done _ _ _ told))
-          (kept-splice (w .«blob_used») (written w strings name v) blob (omega (arith, room, f .blob .within))),
-      omega (arith, f .blob .room, room),
-      subst (KeptOutside (w .«strings_used») (w .«strings_used» + added (placeOf w strings name) name) strings) (sym (p .names ∙ upon-done _ _ _ told))
+    let own = own-splice w blob (written w strings name v) (f .blob) (omega (arith, f .room, n)) (p .bytes ∙ upon-done _ _ _ accepted) in (
+      own .0,
+      own .1,
+      subst (KeptOutside (w .«strings_used») (w .«strings_used» + added (placeOf w strings name) name) strings) (sym (p .names ∙ upon-done _ _ _ accepted))
           (kept-stored w strings name (f .names) (f .placed)),
-      omega (arith, f .names .room, g .used),
+      omega (arith, f .names .room, settled w strings name (f .names) (f .placed) .used),
     )
 
 -- finish: the header, and word 9 with the strings from the used length on
@@ -122,8 +121,8 @@ pub own-finish : {w : Record} {blob strings : List ℕ} {r : Outcome} {a : List 
     (length a ≡ length blob) × ((i : ℕ) → headerSize ≤ i → (i < w .«blob_used») ⊎ (w .«blob_used» + (4 + w .«strings_used») ≤ i) → getD a i 0 ≡ getD blob i 0) × (w .«blob_used» + (4 + w .«strings_used») ≤ w .«blob_room»)
 unfolding finish finishBlob finishedBlob usedStrings
 own-finish {w} {blob} {strings} {r} {a} p e =
-    let told : finishAnswer w (length blob) strings ≡ Done = ap (λ (o : Outcome). o .answer) (sym (p .result)) ∙ e in
-    let f = finish-fits w (length blob) strings told in
+    let accepted : finishAnswer w (length blob) strings ≡ Done = ap (λ (o : Outcome). o .answer) (sym (p .result)) ∙ e in
+    let f = finish-fits w (length blob) strings accepted in
     let final = finalBytes (take (w .«strings_used») strings) in
     let n : length final ≡ 4 + w .«strings_used» = length-final (take (w .«strings_used») strings) ∙ ap (λ (k : ℕ). 4 + k) (length-take-le (w .«strings_used») strings (f .stored)) in
     let header = headerBytes (w .reservations) (w .«blob_used» + 4) (w .«strings_used») (w .«boot_cpuid_phys») in
@@ -131,7 +130,7 @@ own-finish {w} {blob} {strings} {r} {a} p e =
     let k₁ = kept-splice (w .«blob_used») final blob (omega (arith, n, f .room, f .within)) in
     let middle = splice (w .«blob_used») final blob in
     let k₂ = kept-splice 0 header middle (omega (arith, m, k₁ .kept-length, f .started, f .room, f .within)) in
-    let q : a ≡ splice 0 header middle = p .bytes ∙ upon-done _ _ _ told in (
+    let q : a ≡ splice 0 header middle = p .bytes ∙ upon-done _ _ _ accepted in (
       ap length q ∙ k₂ .kept-length ∙ k₁ .kept-length,
       λ i h o. ap (λ (l : List ℕ). getD l i 0) q ∙ k₂ .kept i (inr (omega (arith, m, h))) ∙ k₁ .kept i (⊎-map (λ l. l) (λ l. omega (arith, n, l)) o),
       f .room,
