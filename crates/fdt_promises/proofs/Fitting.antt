@@ -109,7 +109,7 @@ never n e = absurd (true≢false (sym (ap (λ (b : Answer). eqb (numberOf b) 17)
 module _ {numbers : List ℕ} {es : List Event} {boot : ℕ} {marks : List ℕ} {s : Desk} (o : Open numbers es boot marks s) where
   other-opening : (ns : List ℕ) → length ns % 2 ≡ 0 → Other (answer (to-open ns) s)
   unfolding answer openingAnswer openingRows Others
-  other-opening ns e = other (openingRows (length (s .blob)) ns) (inl (simp (eq-eqb _ _ e)), (inr refl, (inr refl, (inr refl, (inr refl, tt)))))
+  other-opening ns e = other (openingRows (length (s .blob)) (length (s .strings)) (length (s .phandles)) ns) (inl (simp (eq-eqb _ _ e)), (inr refl, (inr refl, (inr refl, (inr refl, tt)))))
 
   other-boot : (n : ℕ) → Other (answer (to-boot n) s)
   unfolding answer bootAnswer aloneRows Others
