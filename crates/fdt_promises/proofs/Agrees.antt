@@ -1,4 +1,4 @@
--- The statement that each call's code is proved to meet gives the answer and the desk that runs are made of.
+-- What each call's contract says of the code is what `answer` and `after` say: runs are made of what the code does.
 use mathlib.Core.Path.{_≡_, refl, ap}
 use mathlib.Core.List.{List}
 use Prim.Native.Nat.{ℕ}
@@ -18,7 +18,7 @@ use Rattle.fdt_finish.specs.Finish.{finish, FinishOutcome}
 use Rattle.fdt_promises.specs.Calls.{Request, to-open, to-boot, to-begin, to-end, to-have, to-mark, to-finish, Desk, answer, after}
 use Rattle.fdt_promises.proofs.Desks.{same-desk}
 
--- an answer, and what lies on the desk
+-- an answer, a record and buffers that are those of the definitions
 pub record Agrees (c : Request) (s : Desk) (a : Answer) (w : Record) (blob strings phandles : List ℕ) : Type 0 where
   pub answered : a ≡ answer c s
   pub left : record { writer = w; blob = blob; strings = strings; phandles = phandles } ≡ after c s
@@ -52,7 +52,7 @@ module _ (s : Desk) where
     left = same-desk (ap (λ (o : Outcome). o .after) (p .result)) (p .bytes) refl refl;
   }
 
-  -- of every kind
+  -- every kind of property call
   pub property-agrees : {name : List ℕ} {v : Value} {r : Outcome} {b t : List ℕ} → PropertyOutcome (s .writer) (s .blob) (s .strings) name v r b t → Agrees (to-have name v) s (r .answer) (r .after) b t (s .phandles)
   unfolding answer after property
   property-agrees p = record {

@@ -1,4 +1,4 @@
--- Calls that are made of a property: a phandle once its value is recorded, and what the kinds write.
+-- Calls that go on as a property: a phandle once its value is recorded; and the bytes of each kind of value.
 use mathlib.Core.Path.{_≡_, refl, _∙_}
 use mathlib.Core.List.{List, [], _∷_}
 use Prim.Native.Nat.{ℕ}
@@ -14,7 +14,7 @@ use Rattle.fdt_record.proofs.Answers.{upon-done}
 use Rattle.fdt_properties.specs.Property.{PropertyOutcome}
 use Rattle.fdt_phandles.specs.Phandle.{phandleName, phandleValue, recordAnswer, recorded, phandle, phandleBlob, phandleStrings, PhandleOutcome}
 
--- after 13 and 16 are passed a phandle is a property of the recorded writer
+-- a phandle that passed 13 and 16 is a property of the writer that has recorded it
 pub phandle-property : {w : Record} {blob strings table : List ℕ} {value : ℕ} {r : Outcome} {a b c : List ℕ} → PhandleOutcome w blob strings table value r a b c → recordAnswer w (length blob) strings table value ≡ Done → PropertyOutcome (recorded w) blob strings phandleName (phandleValue value) r a b
 unfolding phandle phandleBlob phandleStrings
 phandle-property p e =

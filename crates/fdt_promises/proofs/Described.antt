@@ -1,4 +1,4 @@
--- A run's description and its blob: what the desk holds at the end, the finish, and that the reading undoes it.
+-- A run's description and its blob: from what the desk holds before finish, through finish, to the reading of the blob.
 use mathlib.Core.Path.{_≡_, sym, ap, _∙_}
 use mathlib.Core.Bool.{false}
 use mathlib.Core.List.{List, [], _∷_}
@@ -49,13 +49,13 @@ module _ (r : Run) where
   pub run-given : desk r .writer .finished ≡ false → (c : Call) → (answer (asks c) (desk r) ≡ Misfit) ↔ Misgiven c
   run-given u = only-given (run-open u)
 
-  -- the numbers of its opening are pairs, each in order
+  -- the numbers of its opening are pairs, each of them valid
   opening-fits : OpeningFits (length (r .before .blob)) (r .numbers)
   unfolding answer
   opening-fits = opened-fits (length (r .before .blob)) _ _ (r .numbers) (r .opened)
 
   module _ (f : Finishes r) where
-    -- at its end it is open
+    -- before its finish it is open
     at-end : Open (r .numbers) (eventsOf (history r)) (bootOf (history r)) (phandlesOf (allAsk (r .calls)) (opened-desk r)) (desk r)
     unfolding Finishes answer
     at-end = run-open (finish-fits (desk r .writer) (length (desk r .blob)) (desk r .strings) f .unmarked)

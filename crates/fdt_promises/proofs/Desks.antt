@@ -1,4 +1,4 @@
--- What each call leaves on the desk: where it is accepted its own bytes and figures, and where it is refused nothing.
+-- What each call leaves on the desk: an accepted call its own bytes and figures, a refused call nothing new.
 use mathlib.Core.Path.{_≡_, refl, sym, ap, _∙_}
 use mathlib.Core.Bool.{Bool, true, false}
 use mathlib.Core.List.{List}
@@ -31,7 +31,8 @@ same-desk d e f g = λ i. record { writer = d i; blob = e i; strings = f i; phan
 
 -- ---- accepted
 
--- the desk after an event more: its bytes after the used part, the strings with so many used, and what is counted from events
+-- the desk after one more event: the event's bytes after the used part, these strings with `names` bytes used, and the figures that
+-- events change
 abbrev pub grown : Desk → Event → (bytes strings : List ℕ) (names : ℕ) → Desk
 grown s e bytes strings names =
     let w = s .writer in
@@ -60,7 +61,7 @@ module _ (s : Desk) where
   unfolding answer after property propertyBlob propertyStrings propertyRecord deepens closes
   had-after name v e = same-desk (upon-done _ _ _ e) (upon-done _ _ _ e) (upon-done _ _ _ e) refl
 
-  -- from there on a phandle is a property
+  -- a phandle that passed 13 and 16 goes on as a property
   module _ (value : ℕ) (e : markAnswer value s ≡ Done) where
     pub marked-answer : answer (to-mark value) s ≡ answer (to-have phandleName (phandleValue value)) (marked s value)
     unfolding answer phandle property
@@ -86,7 +87,7 @@ unhad-after : (s : Desk) (name : List ℕ) (v : Value) → accepts (answer (to-h
 unfolding answer after property propertyBlob propertyStrings
 unhad-after s name v e = same-desk (upon-refused _ _ _ e) (upon-refused _ _ _ e) (upon-refused _ _ _ e) refl
 
--- a refused phandle leaves its value recorded where it passed 13 and 16
+-- a refused phandle call that passed 13 and 16 leaves its value recorded
 unmarked-after : (s : Desk) (value : ℕ) → accepts (answer (to-mark value) s) ≡ false → after (to-mark value) s ≡ upon (markAnswer value s) (marked s value) s
 unfolding after phandle phandleBlob phandleStrings phandleTable
 unmarked-after s value e = go (accepts (markAnswer value s)) refl

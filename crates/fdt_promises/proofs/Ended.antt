@@ -43,7 +43,7 @@ use Rattle.fdt_promises.proofs.Usable.{take-splice}
 
 -- ---- reservations
 
--- numbers in pairs are their reservations
+-- numbers in pairs are the numbers of their reservations
 pub numbers-paired : (numbers : List ℕ) → length numbers % 2 ≡ 0 → numbersOf (reservationsOf numbers) ≡ numbers
 unfolding numbersOf reservationsOf
 numbers-paired [] h = refl
@@ -56,7 +56,7 @@ count-paired [] h = refl
 count-paired (a ∷ []) h = absurd (omega arith)
 count-paired (a ∷ b ∷ numbers) h = omega (arith, count-paired numbers (omega arith))
 
--- valid reservations are such as the format tells
+-- the format can hold valid reservations
 told-valid : (numbers : List ℕ) → length numbers % 2 ≡ 0 → ((k : ℕ) → k < count numbers → invalid (start numbers k) (size numbers k) ≡ false) → AllTold (reservationsOf numbers)
 unfolding reservationsOf AllTold invalid start size
 told-valid [] h f = tt
@@ -90,7 +90,7 @@ told-opened numbers h f = told-valid numbers h (λ k l. go k l (invalid (start n
 
 -- ---- the blob
 
--- a header over as many zeros
+-- a header written over as many zeros
 splice-front : (n : ℕ) (header rest : List ℕ) → length header ≡ n → splice 0 header (zeros n ++ rest) ≡ header ++ rest
 unfolding splice over
 splice-front n header rest h = ap (λ (l : List ℕ). header ++ l) (drop-at (zeros n) rest (length header) (length-zeros n ∙ sym h))
@@ -100,7 +100,7 @@ same-header {a} {a′} {b} {b′} {c} {c′} {d} {d′} p q r t =
     ap (λ (n : ℕ). headerBytes n b c d) p ∙ ap (λ (n : ℕ). headerBytes a′ n c d) q ∙ ap (λ (n : ℕ). headerBytes a′ b′ n d) r ∙ ap (headerBytes a′ b′ c′) t
 
 module _ {numbers : List ℕ} {es : List Event} {boot : ℕ} {marks : List ℕ} {s : Desk} (o : Open numbers es boot marks s) (e : answer to-finish s ≡ Done) where
-  -- the finished blob, as far as it is used
+  -- the used part of the finished blob
   pub finished-bytes : length numbers % 2 ≡ 0 → take (s .writer .«blob_used» + (4 + s .writer .«strings_used»)) (finishedBlob (s .writer) (s .blob) (s .strings)) ≡ blobFrom (reservationsOf numbers) boot es
   unfolding answer finishedBlob usedStrings blobFrom
   finished-bytes even =

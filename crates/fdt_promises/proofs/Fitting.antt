@@ -1,4 +1,4 @@
--- While a run is open its record fits its buffers, so 17 is answered only for what the call itself is given.
+-- While a run is open, its record fits its buffers, so 17 is answered only for a call's own arguments.
 use mathlib.Core.Path.{_≡_, refl, sym, ap, subst, _∙_}
 use mathlib.Core.Bool.{Bool, true, false, not, _&&_, true≢false}
 use mathlib.Core.List.{List, [], _∷_, _++_}
@@ -84,13 +84,13 @@ module _ {numbers : List ℕ} {es : List Event} {boot : ℕ} {marks : List ℕ} 
         phandles = filled-fits (h .marks);
       }
 
--- ---- other answers than 17
+-- ---- answers that are not 17
 
--- another answer than 17
+-- the answer is not 17
 abbrev Other : Answer → Type 0
 Other a = eqb (numberOf a) 17 ≡ false
 
--- each row fails, or gives another answer than 17
+-- each row fails, or its answer is not 17
 unfoldable Others : List Row → Type 0
 Others [] = Unit {0}
 Others ((b ⇒ a) ∷ rows) = ((b ≡ false) ⊎ Other a) × Others rows
@@ -102,7 +102,7 @@ other ((true ⇒ a) ∷ rows) (inl f, r) = absurd (true≢false f)
 other ((true ⇒ a) ∷ rows) (inr p, r) = p
 other ((false ⇒ a) ∷ rows) (p, r) = other rows r
 
--- no other answer is Misfit
+-- an answer that is not 17 is not Misfit
 never : {A : Type 0} {a : Answer} → Other a → a ≡ Misfit → A
 never n e = absurd (true≢false (sym (ap (λ (b : Answer). eqb (numberOf b) 17) e) ∙ n))
 
@@ -130,7 +130,7 @@ module _ {numbers : List ℕ} {es : List Event} {boot : ℕ} {marks : List ℕ} 
       other (propertyRows (s .writer) (length (s .blob)) (s .strings) name v)
       (inr refl, (inl (f .figures), (inl (f .blob), (inl (f .strings), (inl m, (inr refl, (inr refl, (inr refl, (inr refl, (inr refl, (inr refl, (inr refl, tt))))))))))))
 
-  -- of a phandle before its value is recorded
+  -- a phandle, before its value is recorded
   other-mark : (value : ℕ) → Other (markAnswer value s)
   unfolding recordAnswer recordRows stringsRows blobRows aloneRows Others
   other-mark value =
@@ -142,7 +142,7 @@ module _ {numbers : List ℕ} {es : List Event} {boot : ℕ} {marks : List ℕ} 
   unfolding answer finishAnswer finishRows stringsRows blobRows aloneRows Others
   other-finish = let f = open-fits o in other (finishRows (s .writer) (length (s .blob)) (s .strings)) (inr refl, (inl (f .figures), (inl (f .blob), (inl (f .strings), (inr refl, (inr refl, tt))))))
 
--- of a phandle, whose property is judged with the value recorded
+-- a phandle: before its value is recorded, and then as a property
 other-phandle : {numbers : List ℕ} {es : List Event} {boot : ℕ} {marks : List ℕ} {s : Desk} → Open numbers es boot marks s → (value : ℕ) → Other (answer (to-mark value) s)
 unfolding answer phandle phandleValue misfitValue
 other-phandle {s = s} o value = go (accepts (markAnswer value s)) refl
@@ -153,9 +153,9 @@ other-phandle {s = s} o value = go (accepts (markAnswer value s)) refl
         subst Other (sym (marked-answer s value d)) (other-property (marked-open o value d) phandleName (phandleValue value) refl)
     go false t = subst Other (sym (ap (λ (r : Outcome). r .answer) (upon-refused _ _ _ t))) (other-mark o value)
 
--- ---- 17 exactly for what the call is given
+-- ---- 17 exactly for a call's own arguments
 
--- one string's length is its sum
+-- one string, of its own length
 one-sum : (string : List ℕ) → misfitValue (texts string (length string ∷ [])) ≡ false
 unfolding misfitValue sum
 one-sum string = simp (eq-eqb _ _ (let z : length string + 0 ≡ length string = omega arith in z))

@@ -1,4 +1,4 @@
--- Laws of what grows by one: bytes after the used part, a name after the names, an event after the events.
+-- What grows by one: bytes after the used part of a buffer, a name after the names, an event after the events.
 use mathlib.Core.Path.{_≡_, refl, sym, ap, subst, _∙_}
 use mathlib.Core.Bool.{Bool, true, false, not, _&&_, true≢false}
 use mathlib.Core.List.{List, [], _∷_, _++_, append-nil, foldl-append}
@@ -62,7 +62,7 @@ one-filled {ceiling} {room} {used} {contents} {buffer} f b h =
 
 -- ---- a name after the names
 
--- a name that was taken has no byte 0
+-- a name without a byte 0, as entries have it
 pub no-zero : (s : List ℕ) → hasZero s ≡ false → NoZero s
 unfolding hasZero all
 no-zero [] h = no-byte
@@ -78,7 +78,7 @@ pub record Named (room used : ℕ) (strings name : List ℕ) (names : List (List
   pub filled : Filled stringsCeiling (joined (withName names name)) room (used + added p name) (stored p name strings)
 
 module _ {room used : ℕ} {strings : List ℕ} (name : List ℕ) {names : List (List ℕ)} (plain : PlainNames names) (f : Filled stringsCeiling (joined names) room used strings) where
-  -- the name is found among the names just where it is found in the strings
+  -- the name is found among the names exactly where it is found in the strings
   among : (g : Found) → findString (take used strings) name ≡ g → firstFrom 0 names name ≡ g
   unfolding findString
   among g e = ap (λ (l : List (List ℕ)). firstFrom 0 l name) (sym (entries-joined plain) ∙ ap entries (sym (f .part))) ∙ e
@@ -140,7 +140,7 @@ pub ended-snoc : (es : List Event) (e : Event) → endedOf (es ++ (e ∷ [])) �
 unfolding endedOf
 ended-snoc es e = foldl-append closes false es (e ∷ [])
 
--- an event that an accepted call can add at this depth, where a node was ended last or not
+-- what is known of an accepted call's event, from the depth and whether a node was ended last
 unfoldable pub Follows : ℕ → Bool → Event → Type 0
 Follows depth ended (begins name) = depth < mostDepth
 Follows depth ended (has p) = (0 < depth) × (ended ≡ false)

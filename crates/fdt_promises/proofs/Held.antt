@@ -1,4 +1,4 @@
--- What a desk holds while a run is open, after one call more: an accepted call adds its event, a refused one nothing.
+-- What a desk holds while a run is open, after one more call: an accepted call adds its event, a refused call adds nothing.
 use mathlib.Core.Path.{_≡_, refl, sym, ap, subst, _∙_}
 use mathlib.Core.Bool.{Bool, true, false, true≢false}
 use mathlib.Core.List.{List, [], _∷_, _++_, append-assoc, append-nil}
@@ -36,8 +36,8 @@ use Rattle.fdt_promises.specs.Run.{Filled, Holds, told, tells, bootAfter
 use Rattle.fdt_promises.proofs.Desks.{grown, booted-after, begun-after, ended-after, had-after, marked-answer, marked-after, finished-after, refused-mark, refused-after}
 use Rattle.fdt_promises.proofs.Growth.{more-filled, one-filled, no-zero, named, plain-snoc, size-snoc, depth-snoc, ended-snoc, Follows, still-shallow, still-accepted}
 
--- what an open run holds, and what its accepted calls were: at most 64 reservations, a boot number of 32 bits, at most 64
--- open nodes, names without a byte 0, and events that nodes can go on from
+-- what an open run holds, with what only the proofs need: at most 64 reservations, a boot number of 32 bits, at most 64 open nodes,
+-- names without a byte 0, and events that nodes can go on from
 pub record Open (numbers : List ℕ) (es : List Event) (boot : ℕ) (marks : List ℕ) (s : Desk) : Type 0 where
   pub holds : Holds numbers es boot marks s
   pub few : count numbers ≤ mostReservations
@@ -46,9 +46,9 @@ pub record Open (numbers : List ℕ) (es : List Event) (boot : ℕ) (marks : Lis
   pub plain : AllPlain es
   pub leads : (rest : List Event) → Accepted (s .writer .«node_depth») (s .writer .«node_ended») rest → Accepted 0 false (es ++ rest)
 
--- ---- one event more
+-- ---- one more event
 
--- what an accepted call tells of its event, its bytes and the strings afterwards
+-- what an accepted call shows of its event, its bytes and the strings afterwards
 record Growing (es : List Event) (s : Desk) (e : Event) (bytes strings : List ℕ) (names : ℕ) : Type 0 where
   are : bytes ≡ eventBytes (namesOf (es ++ (e ∷ []))) e
   room : s .writer .«blob_used» + length bytes ≤ s .writer .«blob_room»
@@ -88,7 +88,7 @@ module _ {numbers : List ℕ} {es : List Event} {boot : ℕ} {marks : List ℕ} 
         leads = λ rest r. subst (Accepted 0 false) (sym (append-assoc es (e ∷ []) rest)) (o .leads (e ∷ rest) (still-accepted (w .«node_depth») (w .«node_ended») e rest (a .follows) r));
       }
 
-  -- an event that brings no name
+  -- an event without a new name leaves the strings as they are
   same-names : (e : Event) → namesFrom (namesOf es) (e ∷ []) ≡ namesOf es → Filled stringsCeiling (joined (namesOf (es ++ (e ∷ [])))) (s .writer .«strings_room») (s .writer .«strings_used») (s .strings)
   same-names e q = subst (λ (l : List (List ℕ)). Filled stringsCeiling (joined l) (s .writer .«strings_room») (s .writer .«strings_used») (s .strings)) (sym (names-snoc es e ∙ q)) (o .holds .strings)
 
@@ -141,7 +141,7 @@ module _ {numbers : List ℕ} {es : List Event} {boot : ℕ} {marks : List ℕ} 
 
   -- ---- no event
 
-  -- another boot number and other phandles: the rest is as it was
+  -- another boot number and other phandles; everything else is as it was
   carried-open : (n count : ℕ) {m : ℕ} {values phandles : List ℕ} → n ≡ m → m < 2 ^ 32 → Filled phandlesCeiling values (s .writer .«phandles_room») count phandles → Open numbers es m values (withWriter (withBoot n (withUsedPhandles count (s .writer))) (withPhandles phandles s))
   carried-open n count q l f =
       let h = o .holds in
@@ -174,18 +174,18 @@ module _ {numbers : List ℕ} {es : List Event} {boot : ℕ} {marks : List ℕ} 
       let f = record-fits (s .writer) (length (s .blob)) (s .strings) (s .phandles) value e in
       carried-open (s .writer .«boot_cpuid_phys») (s .writer .«phandles_used» + 1) (o .holds .boot-number) (o .small) (one-filled (o .holds .marks) value (f .room))
 
--- ---- one call more
+-- ---- one more call
 
 -- nothing is recorded
 unmarked : {numbers : List ℕ} {es : List Event} {boot : ℕ} {marks : List ℕ} {d : Desk} → Open numbers es boot marks d → Open numbers es boot (marks ++ []) d
 unmarked {marks = marks} o = rw (append-nil marks) o
 
--- nothing is told
+-- no event is added
 silent : {numbers : List ℕ} {es : List Event} {boot : ℕ} {marks : List ℕ} {d : Desk} → Open numbers es boot marks d → Open numbers (es ++ []) boot marks d
 silent {es = es} o = rw (append-nil es) o
 
 module _ {numbers : List ℕ} {es : List Event} {boot : ℕ} {marks : List ℕ} {s : Desk} (o : Open numbers es boot marks s) where
-  -- an accepted phandle: its value is recorded, and it is a property
+  -- an accepted phandle: its value is recorded, and then it is a property
   phandle-open : (value : ℕ) → answer (to-mark value) s ≡ Done → Open numbers (es ++ told (records value)) boot (marks ++ recordedBy (records value) s) (after (to-mark value) s)
   unfolding told recordedBy accepts
   phandle-open value e = go (accepts (markAnswer value s)) refl
@@ -197,7 +197,7 @@ module _ {numbers : List ℕ} {es : List Event} {boot : ℕ} {marks : List ℕ} 
           (had-open (marked-open o value d) phandleName (phandleValue value) (sym (marked-answer s value d) ∙ e))
       go false t = absurd (true≢false (ap accepts (sym e) ∙ refused-mark s value t))
 
-  -- what a refused call leaves, by what it does
+  -- what a refused call leaves, by its effect
   left-open : (x : Effect) → InRun x → Open numbers es boot (marks ++ recordedBy x s) (leftBy x s)
   unfolding InRun leftBy recordedBy
   left-open opens i = absurd i

@@ -1,4 +1,4 @@
--- Any two outcomes that satisfy a call's statement coincide: each is the same function of what was passed in.
+-- Any two outcomes that satisfy a call's contract are equal: each is the same function of what was passed in.
 use mathlib.Core.Path.{_≡_, sym, _∙_}
 use mathlib.Core.List.{List}
 use Prim.Native.Nat.{ℕ}
@@ -27,7 +27,7 @@ one-begin p q = (p .result ∙ sym (q .result), p .bytes ∙ sym (q .bytes))
 pub one-end : {w : Record} {blob : List ℕ} {handle : ℕ} {r s : Outcome} {a b : List ℕ} → EndOutcome w blob handle r a → EndOutcome w blob handle s b → (r ≡ s) × (a ≡ b)
 one-end p q = (p .result ∙ sym (q .result), p .bytes ∙ sym (q .bytes))
 
--- of every kind: the value is what the call was given
+-- every kind of property call, by its value
 pub one-property : {w : Record} {blob strings name : List ℕ} {v : Value} {r s : Outcome} {a b c d : List ℕ} → PropertyOutcome w blob strings name v r a c → PropertyOutcome w blob strings name v s b d → (r ≡ s) × (a ≡ b) × (c ≡ d)
 one-property p q = (p .result ∙ sym (q .result), p .bytes ∙ sym (q .bytes), p .names ∙ sym (q .names))
 

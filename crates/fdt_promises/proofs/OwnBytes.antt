@@ -84,7 +84,7 @@ own-end {w} {blob} {handle} p e =
     let f = end-fits w (length blob) handle accepted in
     own-splice w blob endBytes (f .blob) (omega (arith, f .room, length-end)) (p .bytes ∙ upon-done _ _ _ accepted)
 
--- what storing a name at its place does to strings that the record fits
+-- storing a name at its place changes only the bytes after the used strings
 kept-stored : (w : Record) (strings name : List ℕ) → FitStrings w strings → isFull (placeOf w strings name) ≡ false → KeptOutside (w .«strings_used») (w .«strings_used» + added (placeOf w strings name) name) strings (stored (placeOf w strings name) name strings)
 unfolding placeOf isFull added stored
 kept-stored w strings name f h = go (interned (take (w .«strings_used») strings) (w .«strings_room») name) refl h
@@ -99,7 +99,7 @@ kept-stored w strings name f h = go (interned (take (w .«strings_used») string
         (kept-splice offset (entry name) strings (omega (arith, s .fits, f .within)))
     go place.StringRoom e h = absurd (true≢false h)
 
--- property, of every kind: its bytes from the used length on, and a new name after the used strings
+-- every kind of property call: its bytes from the used length on, and a new name after the used strings
 pub own-property : {w : Record} {blob strings name : List ℕ} {v : Value} {r : Outcome} {a b : List ℕ} → PropertyOutcome w blob strings name v r a b → r .answer ≡ Done →
     KeptOutside (w .«blob_used») (w .«blob_used» + length (written w strings name v)) blob a × (w .«blob_used» + length (written w strings name v) ≤ usable blobCeiling (length blob))
     × KeptOutside (w .«strings_used») (w .«strings_used» + added (placeOf w strings name) name) strings b × (w .«strings_used» + added (placeOf w strings name) name ≤ usable stringsCeiling (length strings))

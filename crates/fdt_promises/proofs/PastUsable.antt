@@ -1,4 +1,4 @@
--- Nothing past the usable length is read: calls on buffers with the same usable parts give the same and leave the same usable parts.
+-- No call reads past the usable length: with the same usable parts it answers the same and leaves the same usable parts.
 use mathlib.Core.Path.{_≡_, refl, ap, subst, _∙_}
 use mathlib.Core.Bool.{true, false}
 use mathlib.Core.List.{List, [], _∷_, _++_}
@@ -100,7 +100,7 @@ module _ (xs ys : List ℕ) (same : SameUsable blobCeiling xs ys) where
     unfolding finishAnswer finishRows stringsRows blobRows
     same-finish w = simp (same-misfit-blob w xs ys same, same-misfit-strings w ss ts alike)
 
-    -- the used strings, of a record that they fit
+    -- the used strings are the same, if the record fits them
     same-used : (w : Record) → FitStrings w ss → take (w .«strings_used») ss ≡ take (w .«strings_used») ts
     same-used w f = same-front stringsCeiling (w .«strings_used») ss ts alike (omega (arith, f .room, f .used))
 
@@ -150,7 +150,7 @@ module _ (xs ys : List ℕ) (same : SameUsable blobCeiling xs ys) where
           (state-refusals w (length xs) ss (misfitValue v) (zeroValue v)) (state-refusals w (length ys) ts (misfitValue v) (zeroValue v)) same-state
           (λ e. same-names (state-fits w (length xs) ss v refl refl refl e .names))
 
-      -- what is the same where the answer accepts
+      -- equal if the call is accepted, so equal
       accepted-same : {A : Type 0} (x x′ y : A) → (accepts (propertyAnswer w (length xs) ss name v) ≡ true → x ≡ x′) → upon (propertyAnswer w (length xs) ss name v) x y ≡ upon (propertyAnswer w (length ys) ts name v) x′ y
       accepted-same {A} x x′ y f = upon-same (propertyAnswer w (length xs) ss name v) x x′ y f ∙ ap (λ (a : Answer). upon a x′ y) same-property
 

@@ -1,4 +1,4 @@
--- What stands after every call of a run, by induction on the calls: each adds what it tells and records; after a finish all are refused.
+-- What holds after every call of a run, by induction on the calls; after an accepted finish every call is refused.
 use mathlib.Core.Path.{_≡_, refl, sym, ap, subst, _∙_}
 use mathlib.Core.Bool.{Bool, true, false}
 use mathlib.Core.List.{List, [], _∷_, _++_, append-assoc, append-nil, foldl}
@@ -82,7 +82,7 @@ module _ (s : Desk) (f : s .writer .finished ≡ true) where
   runs-stay [] i = refl
   runs-stay (c ∷ cs) i = ap (runs cs) (closed-stays c (i .0)) ∙ runs-stay cs (i .1)
 
--- a run that is open at its end was open before
+-- a run that is open after some calls was open before them
 open-before : (cs : List Request) → AllInRun cs → (s : Desk) → runs cs s .writer .finished ≡ false → s .writer .finished ≡ false
 open-before cs i s u = go (s .writer .finished) refl
   where

@@ -1,4 +1,4 @@
--- Laws of usable parts: what judges a buffer reads only them, and a splice within them keeps them the same.
+-- Laws of usable parts: the tests of a buffer read only its usable part, and the same splice keeps two usable parts the same.
 use mathlib.Core.Path.{_≡_, refl, sym, ap, subst, _∙_}
 use mathlib.Core.Bool.{Bool, true, false, not, cond, _&&_, _||_}
 use mathlib.Core.List.{List, _++_}
@@ -29,7 +29,7 @@ pub same-length : (ceiling : ℕ) (xs ys : List ℕ) → SameUsable ceiling xs y
 unfolding SameUsable
 same-length ceiling xs ys e = sym (usable-length ceiling xs) ∙ ap length e ∙ usable-length ceiling ys
 
--- and the same fronts, up to it
+-- and the same bytes up to it
 pub same-front : (ceiling n : ℕ) (xs ys : List ℕ) → SameUsable ceiling xs ys → n ≤ usable ceiling (length xs) → take n xs ≡ take n ys
 unfolding SameUsable
 same-front ceiling n xs ys e h =
@@ -127,7 +127,7 @@ same-misfit-strings w xs ys e = go (decLt u used) (decLt 0 used)
         let z : eqb used 0 ≡ true = eq-eqb used 0 (omega arith) in
         ap (λ (k : ℕ). judged k (getD xs (used - 1) 0)) same ∙ simp z
 
--- what is left by the same answers, of buffers that had the same usable parts
+-- buffers with the same usable parts, changed or not by the same answer
 pub same-upon : (ceiling : ℕ) {a b : Answer} → a ≡ b → (xs ys xs′ ys′ : List ℕ) → SameUsable ceiling xs ys → (accepts a ≡ true → SameUsable ceiling xs′ ys′) → SameUsable ceiling (upon a xs′ xs) (upon b ys′ ys)
 same-upon ceiling {a} q xs ys xs′ ys′ e f = subst (λ (c : Answer). SameUsable ceiling (upon a xs′ xs) (upon c ys′ ys)) q (by (accepts a) f)
   where

@@ -6,7 +6,7 @@ use Prim.Native.Nat.{ℕ, _≤_, _<_}
 use lib.ListN.{length, take, getD}
 use Rattle.fdt_record.specs.Limits.{usable}
 
--- the buffer keeps its length, and every byte before one place and from another on
+-- the buffer keeps its length, every byte before `from` and every byte from `to` on
 pub record KeptOutside (from to : ℕ) (before after : List ℕ) : Type 0 where
   pub kept-length : length after ≡ length before
   pub kept : (i : ℕ) → (i < from) ⊎ (to ≤ i) → getD after i 0 ≡ getD before i 0

@@ -13,7 +13,7 @@ infix 20 _reads_
 pub data Case : Type 0 where
   _reads_ : List ℕ → Option Description → Case
 
--- every case of a table is so
+-- every case of the table holds
 unfoldable pub AllRead : List Case → Type 0
 AllRead [] = Unit {0}
 AllRead ((bytes reads said) ∷ cases) = (reading bytes ≡ said) × AllRead cases
@@ -33,12 +33,12 @@ only words =
     let end : ℕ = 56 + 4 * length words in
     cellBytes 4 (0xd00dfeed ∷ end ∷ 56 ∷ end ∷ 40 ∷ 17 ∷ 16 ∷ 0 ∷ 0 ∷ (4 * length words) ∷ 0 ∷ 0 ∷ 0 ∷ 0 ∷ words)
 
--- so many nodes with empty names, each inside the one before, and then words
+-- words of n nodes with empty names, each inside the one before, and then these words
 unfoldable pub nested : ℕ → List ℕ → List ℕ
 nested zero words = words
 nested (suc n) words = 1 ∷ 0 ∷ nested n (2 ∷ words)
 
--- the nodes that these words tell
+-- the nodes that those words describe
 unfoldable pub nest : ℕ → Nodes
 nest zero = no-more
 nest (suc n) = node [] [] (nest n) no-more

@@ -26,7 +26,7 @@ unfoldable pub holds : Case → Bool
 holds (answers given expected) = eqb given expected
 holds (leaves given expected) = same given expected
 
--- every case of a table is
+-- every case of the table is
 unfoldable pub allHold : List Case → Bool
 allHold [] = true
 allHold (c ∷ cs) = holds c && allHold cs
@@ -35,23 +35,23 @@ allHold (c ∷ cs) = holds c && allHold cs
 unfoldable pub dirty : ℕ → List ℕ
 dirty n = replicate n 238
 
--- what a fresh writer over buffers of 256 bytes, 64 bytes and 4 entries knows
+-- the record of a fresh writer over buffers of 256 bytes, 64 bytes and 4 entries
 unfoldable pub fresh : Record
 fresh = openedRecord 256 64 4 []
 
--- what begin answers for a name, at a depth
+-- the number that begin answers for a name, at a depth
 unfoldable pub beginGives : ℕ → List ℕ → ℕ
 beginGives depth name = numberOf (begin (withDepth depth fresh) (dirty 256) name .answer)
 
--- what property answers for a name, in a node with an empty name
+-- the number that property answers for a name, in a node with an empty name
 unfoldable pub propertyIn : List ℕ → ℕ
 propertyIn name = numberOf (property (begunRecord fresh []) 256 (dirty 64) name (raw []) .answer)
 
--- what opening answers for reservations, address and size in turn
+-- the number that opening answers for reservations, address and size in turn
 unfoldable pub openWith : List ℕ → ℕ
 openWith numbers = numberOf (opening 256 64 4 numbers .answer)
 
--- the record after opening with no reservations over so many bytes
+-- the record after opening with no reservations over n bytes
 unfoldable pub openedOver : ℕ → Record
 openedOver n = opening n 0 0 [] .after
 
@@ -59,7 +59,7 @@ openedOver n = opening n 0 0 [] .after
 unfoldable pub openedBlob : ℕ → List ℕ
 openedBlob n = openingBlob (dirty n) 0 0 []
 
--- what finish answers after an empty run over so many bytes
+-- the number that finish answers after an empty run over n bytes
 unfoldable pub emptyRun : ℕ → ℕ
 emptyRun n = numberOf (finish (openedOver n) n [] .answer)
 
@@ -67,7 +67,7 @@ emptyRun n = numberOf (finish (openedOver n) n [] .answer)
 unfoldable pub emptyBlob : ℕ → List ℕ
 emptyBlob n = shown (finish (openedOver n) n [] .after) (finishBlob (openedOver n) (openedBlob n) [])
 
--- the name `a` followed by so many `b`
+-- the name `a` followed by n times `b`
 unfoldable pub long : ℕ → List ℕ
 long n = 97 ∷ replicate n 98
 
@@ -75,7 +75,7 @@ long n = 97 ∷ replicate n 98
 unfoldable pub last : ℕ
 last = 2 ^ 64 - 1
 
--- the starred cases, in document 01's order, with the sentences that follow in the same line
+-- the starred cases, in document 01's order, each with the rest of its line there
 unfoldable pub starred : List Case
 starred =
     -- base name of 31 bytes taken, 32 refused 10; a@ taken; @1 and 1a refused 10
