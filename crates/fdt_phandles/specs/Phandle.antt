@@ -43,11 +43,11 @@ unfoldable pub recorded : Record → Record
 recorded w = withUsedPhandles (w .«phandles_used» + 1) w
 
 -- the answer and the record: refused before the value is recorded, or what the property gives after it
-unfoldable pub phandle : Record → ℕ → List ℕ → List ℕ → ℕ → Outcome
-phandle w lent strings table value =
-    upon (recordAnswer w lent strings table value)
-    (property (recorded w) lent strings phandleName (phandleValue value))
-    (record { answer = recordAnswer w lent strings table value; after = w })
+unfoldable pub phandle : Record → List ℕ → List ℕ → List ℕ → ℕ → Outcome
+phandle w blob strings table value =
+    upon (recordAnswer w (length blob) strings table value)
+    (property (recorded w) blob strings phandleName (phandleValue value))
+    (record { answer = recordAnswer w (length blob) strings table value; after = w })
 
 -- the blob afterwards
 unfoldable pub phandleBlob : Record → List ℕ → List ℕ → List ℕ → ℕ → List ℕ
@@ -57,10 +57,10 @@ phandleBlob w blob strings table value =
     blob
 
 -- the strings afterwards
-unfoldable pub phandleStrings : Record → ℕ → List ℕ → List ℕ → ℕ → List ℕ
-phandleStrings w lent strings table value =
-    upon (recordAnswer w lent strings table value)
-    (propertyStrings (recorded w) lent strings phandleName (phandleValue value))
+unfoldable pub phandleStrings : Record → List ℕ → List ℕ → List ℕ → ℕ → List ℕ
+phandleStrings w blob strings table value =
+    upon (recordAnswer w (length blob) strings table value)
+    (propertyStrings (recorded w) blob strings phandleName (phandleValue value))
     strings
 
 -- the table afterwards: the value recorded once 13 and 16 are passed, even if the property is then refused
@@ -70,7 +70,7 @@ phandleTable w lent strings table value =
 
 -- the outcome of a call
 pub record PhandleOutcome (w : Record) (blob strings table : List ℕ) (value : ℕ) (r : Outcome) (blobAfter stringsAfter tableAfter : List ℕ) : Type 0 where
-  pub result : r ≡ phandle w (length blob) strings table value
+  pub result : r ≡ phandle w blob strings table value
   pub bytes : blobAfter ≡ phandleBlob w blob strings table value
-  pub names : stringsAfter ≡ phandleStrings w (length blob) strings table value
+  pub names : stringsAfter ≡ phandleStrings w blob strings table value
   pub handles : tableAfter ≡ phandleTable w (length blob) strings table value

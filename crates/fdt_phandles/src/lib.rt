@@ -8,7 +8,6 @@ ghost use Rattle.fdt_properties.specs.Property.{PropertyOutcome};
 use fdt_record::Answer;
 use fdt_record::Outcome;
 use fdt_record::Record;
-use fdt_values::Kind;
 
 // The name of a phandle's property.
 pub const PHANDLE: [u8; 7] = *b"phandle";
@@ -52,17 +51,7 @@ fn record_tests(w: Record, lent: usize, strings: &[u8], phandles: &[u32], val: u
 fn put_phandle(w: Record, blob: &mut [u8], strings: &mut [u8], val: u32) -> Outcome
     ensures { λ r. ⌜ PropertyOutcome w (now (blob .entry)) (now (strings .entry)) phandleName (phandleValue val) r (now (blob .exit)) (now (strings .exit)) ⌝ }
 {
-    fdt_properties::write_property(
-        w,
-        blob,
-        strings,
-        &PHANDLE,
-        Kind::Cells,
-        &[],
-        &[val],
-        &[],
-        &[],
-    )
+    fdt_properties::write_cells(w, blob, strings, &PHANDLE, &[val])
 }
 
 // Records a phandle and writes its property; the value is recorded even if the property is then refused.

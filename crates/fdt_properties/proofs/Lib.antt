@@ -1,4 +1,4 @@
-pub mod Accepted
+pub mod Filling
 pub mod Places
 pub mod Property
 pub mod Steps

@@ -1,58 +1,74 @@
--- Laws of a name's place: only a new name is stored, and an accepted place fits.
-use mathlib.Core.Path.{_≡_, refl}
-use mathlib.Core.List.{List, [], _∷_}
+-- Laws of a name's place: its figures, where a new name is stored, and that it fits.
+use mathlib.Core.Path.{_≡_, refl, sym, subst}
+use mathlib.Core.Bool.{true, false}
+use mathlib.Core.List.{List}
 use Prim.Native.Nat.{ℕ, _+_, _≤_}
-use mathlib.Core.Bool.{true, false, true≢false}
 use native.Mathlib.Omega.{arith}
-use types.Run.{OneOf, miss}
-use denote.Enum.Declared.{tagOf}
-use Rattle.fdt_strings.proofs.Interned.{the-type}
-use Rattle.fdt_strings.specs.declared.Interned.{Interned}
-use Rattle.fdt_strings.specs.declared.Interned.the-variants.{Known, New, StringRoom}
+use borrow.Author.Tests.{ne-eqb}
 use lib.ListN.{length, take}
 use lib.Seq.{length-take-le}
-use Rattle.fdt_strings.specs.Interned.{interned}
-use Rattle.fdt_strings.proofs.Entries.{found-stands, stands-fits}
+use Rattle.fdt_strings.specs.declared.Interned.{Interned}
+use Rattle.fdt_strings.specs.declared.Interned.the-variants.{Known, New, StringRoom}
+use Rattle.fdt_strings.specs.Entries.{entry}
+use Rattle.fdt_strings.specs.Interned.{interned, numberOf, valuesOf}
+use Rattle.fdt_strings.proofs.Entries.{length-entry, found-stands, stands-fits}
 use Rattle.fdt_strings.proofs.Places.{known-found, new-placed}
 use Rattle.fdt_record.specs.declared.Record.{Record}
 use Rattle.fdt_record.specs.Limits.{stringsCeiling}
 use Rattle.fdt_record.proofs.Fits.{FitStrings}
+use Rattle.fdt_properties.specs.declared.Place.{Place}
+use Rattle.fdt_properties.specs.Placeholder.{PlaceIs, NameFits, storedAt}
 use Rattle.fdt_properties.specs.Property.{placeOf, isFull, placeOffset, added, stored}
-use Rattle.fdt_properties.specs.Tested.{PlaceFits}
 
--- the places that are not new: nothing is stored
-pub not-new : (place : Interned) (name strings : List ℕ) → OneOf (0 ∷ 2 ∷ []) (tagOf the-type place) → stored place name strings ≡ strings
-unfolding stored
-not-new (Known offset) name strings h = refl
-not-new (New offset) name strings h = absurd (miss (0 ∷ 2 ∷ []) 1 tt h)
-not-new StringRoom name strings h = refl
+-- the figures of each place
+pub known-is : (offset : ℕ) (name : List ℕ) → PlaceIs (Known offset) name (record { full = false; offset = offset; added = 0 })
+unfolding isFull numberOf placeOffset valuesOf added
+known-is offset name = record { full-is = refl; offset-is = refl; added-is = refl }
+
+pub new-is : (offset : ℕ) (name : List ℕ) → PlaceIs (New offset) name (record { full = false; offset = offset; added = length name + 1 })
+unfolding isFull numberOf placeOffset valuesOf added
+new-is offset name = record { full-is = refl; offset-is = refl; added-is = sym (length-entry name) }
+
+pub none-is : (name : List ℕ) → PlaceIs StringRoom name (record { full = true; offset = 0; added = 0 })
+unfolding isFull numberOf placeOffset valuesOf added
+none-is name = record { full-is = refl; offset-is = refl; added-is = refl }
+
+pub place-is : {p q : Interned} {name : List ℕ} {r : Place} → p ≡ q → PlaceIs q name r → PlaceIs p name r
+place-is {name = name} {r} e = subst (λ (p : Interned). PlaceIs p name r) (sym e)
+
+-- a name is stored where it adds bytes
+pub stored-at : (p : Interned) (name strings : List ℕ) → storedAt (placeOffset p) (added p name) name strings ≡ stored p name strings
+unfolding stored storedAt placeOffset valuesOf added
+stored-at (Known offset) name strings = refl
+stored-at (New offset) name strings = simp (ne-eqb (length (entry name)) 0 (λ e. omega (arith, length-entry name)))
+stored-at StringRoom name strings = refl
 
 -- where a name stands or goes, in strings that the record fits
 pub record Settled (w : Record) (strings name : List ℕ) (place : Interned) : Type 0 where
-  pub fits : PlaceFits place name strings
+  pub fits : NameFits (placeOffset place) (added place name) name strings
   pub offset : placeOffset place ≤ stringsCeiling
   pub used : w .«strings_used» + added place name ≤ w .«strings_room»
 
-pub settled : (w : Record) (strings name : List ℕ) → FitStrings w strings → isFull (placeOf w strings name) ≡ false → Settled w strings name (placeOf w strings name)
-unfolding placeOf isFull PlaceFits placeOffset added
-settled w strings name f e = go (interned (take (w .«strings_used») strings) (w .«strings_room») name) refl e
+pub settled : (w : Record) (strings name : List ℕ) → FitStrings w strings → Settled w strings name (placeOf w strings name)
+unfolding placeOf placeOffset valuesOf added
+settled w strings name f = go (interned (take (w .«strings_used») strings) (w .«strings_room») name) refl
   where
     n : length (take (w .«strings_used») strings) ≡ w .«strings_used»
     n = length-take-le (w .«strings_used») strings (omega (arith, f .used, f .within))
 
-    go : (p : Interned) → interned (take (w .«strings_used») strings) (w .«strings_room») name ≡ p → isFull p ≡ false → Settled w strings name p
-    go (Known offset) q h =
+    go : (p : Interned) → interned (take (w .«strings_used») strings) (w .«strings_room») name ≡ p → Settled w strings name p
+    go (Known offset) q =
         let s = stands-fits (found-stands (take (w .«strings_used») strings) name offset (known-found (take (w .«strings_used») strings) name (w .«strings_room») offset q)) in
         record {
-          fits = tt;
+          fits = λ h. absurd (h refl);
           offset = omega (arith, s, n, f .used, f .small);
           used = omega (arith, f .used);
         }
-    go (New offset) q h =
+    go (New offset) q =
         let s = new-placed (take (w .«strings_used») strings) name (w .«strings_room») offset q in
         record {
-          fits = omega (arith, s .fits, f .within);
+          fits = λ h. omega (arith, s .fits, f .within);
           offset = omega (arith, s .fits, f .small);
           used = omega (arith, s .fits, s .place, n);
         }
-    go StringRoom q h = absurd (true≢false h)
+    go StringRoom q = record { fits = λ h. absurd (h refl); offset = omega arith; used = omega (arith, f .used) }

@@ -1,49 +1,120 @@
--- The tests of a property in two steps: those of the record and the value, and then those of the name and the rooms.
-use mathlib.Core.Path.{_≡_, sym, ap, _∙_}
-use mathlib.Core.Bool.{Bool, true, false}
-use mathlib.Core.List.{List}
-use Prim.Native.Nat.{ℕ}
+-- The tests of a property in two steps: those that do not search the strings, and then those of the rooms. What is said of
+-- the answer holds of every value that is measured so.
+use mathlib.Core.Path.{_≡_, refl, sym, ap, _∙_}
+use mathlib.Core.Bool.{Bool, true, false, true≢false}
+use mathlib.Core.List.{List, [], _∷_, _++_}
+use Prim.Native.Nat.{ℕ, _+_, _≤_}
+use native.Mathlib.Omega.{arith}
 use lib.ListN.{length}
+use Rattle.fdt_bytes.specs.Padding.{roundUp}
+use Rattle.fdt_format.proofs.Tokens.{length-property}
 use Rattle.fdt_values.specs.Value.{Value, valueBytes, misfitValue, zeroValue}
 use Rattle.fdt_record.specs.declared.Answer.{Answer}
+use Rattle.fdt_record.specs.declared.Answer.the-variants.{StringRoom, BlobRoom}
 use Rattle.fdt_record.specs.declared.Record.{Record}
 use Rattle.fdt_record.specs.Answers.{accepts}
-use Rattle.fdt_record.specs.Rows.{first}
+use Rattle.fdt_record.specs.Fields.{withUsedBlob, withUsedStrings}
+use Rattle.fdt_record.specs.Misfits.{overfull}
+use Rattle.fdt_record.specs.Rows.{Row, _⇒_, first}
 use Rattle.fdt_record.specs.Tests.{aloneRows, blobRows, stringsRows}
 use Rattle.fdt_record.proofs.Answers.{accepts-done}
-use Rattle.fdt_record.proofs.Fits.{FitStrings, fit-strings}
+use Rattle.fdt_record.proofs.Fits.{FitBlob, fit-blob, FitStrings, fit-strings, not-overfull}
 use Rattle.fdt_record.proofs.Rows.{NoneHolds, Refusals, exactly, stands, goes-on}
-use Rattle.fdt_properties.specs.Property.{stateRows, nameRows, propertyRows, propertyAnswer}
-use Rattle.fdt_properties.proofs.Property.{state-refusals}
+use Rattle.fdt_properties.specs.declared.Measured.{Measured}
+use Rattle.fdt_properties.specs.declared.Place.{Place}
+use Rattle.fdt_properties.specs.Placeholder.{PlaceIs, Measures, NameFits, FrameFits, Passed, Tests}
+use Rattle.fdt_properties.specs.Property.{placeOf, isFull, placeOffset, added, written, propertyRecord, stateRows, nameRows, roomRows, propertyRows, propertyAnswer}
+use Rattle.fdt_properties.proofs.Places.{settled}
+use Rattle.fdt_properties.proofs.Property.{first-refusals}
 
 -- what the first step passed
-pub record StateFits (w : Record) (strings : List ℕ) (v : Value) : Type 0 where
+pub record FirstFits (w : Record) (blob strings : List ℕ) (misfit : Bool) : Type 0 where
+  pub blob-fits : FitBlob w (length blob)
   pub names : FitStrings w strings
-  pub value : misfitValue v ≡ false
+  pub in-order : misfit ≡ false
 
-module _ (w : Record) (lent : ℕ) (strings : List ℕ) (v : Value) {m z : Bool} (misfit : m ≡ misfitValue v) (zero : z ≡ zeroValue v) {a : Answer} (told : a ≡ first (stateRows w lent strings m z)) where
+-- the record after a value of so many bytes, whose name adds so many to the strings
+abbrev grown : Record → ℕ → ℕ → Record
+grown w len more = withUsedStrings (w .«strings_used» + more) (withUsedBlob (w .«blob_used» + (12 + roundUp 4 len)) w)
+
+module _ (w : Record) (blob strings name : List ℕ) (m : Measured) {a : Answer} (told : a ≡ first (stateRows w (length blob) strings (m .misfit) (m .zero) ++ nameRows name)) where
   -- the first step, with the value's own tests
-  state-told : a ≡ first (stateRows w lent strings (misfitValue v) (zeroValue v))
-  state-told =
-      told ∙ ap (λ (x : Bool). first (stateRows w lent strings x z)) misfit
-      ∙ ap (λ (x : Bool). first (stateRows w lent strings (misfitValue v) x)) zero
+  told-of : (v : Value) → Measures m v → a ≡ first (stateRows w (length blob) strings (misfitValue v) (zeroValue v) ++ nameRows name)
+  told-of v k =
+      told ∙ ap (λ (x : Bool). first (stateRows w (length blob) strings x (m .zero) ++ nameRows name)) (k .misfit-is)
+      ∙ ap (λ (x : Bool). first (stateRows w (length blob) strings (misfitValue v) x ++ nameRows name)) (k .zero-is)
 
-  refusals : Refusals (stateRows w lent strings (misfitValue v) (zeroValue v))
-  refusals = state-refusals w lent strings (misfitValue v) (zeroValue v)
-
-  pub state-fits : accepts a ≡ true → StateFits w strings v
+  pub first-fits : accepts a ≡ true → FirstFits w blob strings (m .misfit)
   unfolding stateRows stringsRows blobRows aloneRows NoneHolds
-  state-fits r =
-      let n = exactly (stateRows w lent strings (misfitValue v) (zeroValue v)) refusals .accepted .0 (sym state-told ∙ accepts-done a r) .1 .1 .1 in
-      record { names = fit-strings w strings (n .0); value = n .1 .0 }
+  first-fits r =
+      let n = exactly _ (first-refusals w (length blob) strings name (m .misfit) (m .zero)) .accepted .0 (sym told ∙ accepts-done a r) .1 in
+      record {
+        blob-fits = fit-blob w (length blob) (n .1 .0);
+        names = fit-strings w strings (n .1 .1 .0);
+        in-order = n .1 .1 .1 .0;
+      }
 
   -- refused by the first step
-  pub refused-first : (name : List ℕ) → accepts a ≡ false → a ≡ propertyAnswer w lent strings name v
+  pub refused-first : accepts a ≡ false → Tests w blob strings name m (record { answer = a; offset = 0; added = 0; after = w })
   unfolding propertyAnswer propertyRows
-  refused-first name = stands _ refusals state-told _
+  refused-first t = record {
+    passed = λ h. absurd (true≢false (sym h ∙ t));
+    answered = λ v k. stands _ (first-refusals w (length blob) strings name (misfitValue v) (zeroValue v)) (told-of v k) _ t;
+    after-is = λ v k h. absurd (true≢false (sym h ∙ t));
+  }
 
   -- answered by the second step
-  pub answered-second : (name : List ℕ) → accepts a ≡ true → {len : ℕ} → len ≡ length (valueBytes v) → {b : Answer} → b ≡ first (nameRows w strings name len) → b ≡ propertyAnswer w lent strings name v
-  unfolding propertyAnswer propertyRows
-  answered-second name r s e =
-      e ∙ ap (λ (n : ℕ). first (nameRows w strings name n)) s ∙ sym (goes-on _ refusals state-told _ r)
+  module _ (r : accepts a ≡ true) {p : Place} (placed : PlaceIs (placeOf w strings name) name p) {after : Record} (grew : after ≡ grown w (m .len) (p .added)) {b : Answer} (says : b ≡ first ((p .full ⇒ StringRoom) ∷ (overfull after ⇒ BlobRoom) ∷ [])) where
+    in-order : (v : Value) → Measures m v → misfitValue v ≡ false
+    in-order v k = sym (k .misfit-is) ∙ first-fits r .in-order
+
+    after-of : (v : Value) → Measures m v → after ≡ propertyRecord w strings name v
+    unfolding propertyRecord written
+    after-of v k =
+        grew
+        ∙ ap (grown w (m .len)) (placed .added-is)
+        ∙ ap (λ (n : ℕ). withUsedStrings (w .«strings_used» + added (placeOf w strings name) name) (withUsedBlob (w .«blob_used» + n) w))
+        (ap (λ (n : ℕ). 12 + roundUp 4 n) (k .len-is (in-order v k)) ∙ sym (length-property (placeOffset (placeOf w strings name)) (valueBytes v)))
+
+    says-of : (v : Value) → Measures m v → b ≡ first (roomRows w strings name v)
+    unfolding roomRows
+    says-of v k =
+        says ∙ ap (λ (x : Bool). first ((x ⇒ StringRoom) ∷ (overfull after ⇒ BlobRoom) ∷ [])) (placed .full-is)
+        ∙ ap (λ (x : Record). first ((isFull (placeOf w strings name) ⇒ StringRoom) ∷ (overfull x ⇒ BlobRoom) ∷ [])) (after-of v k)
+
+    room-passed : accepts b ≡ true → overfull after ≡ false
+    unfolding NoneHolds Refusals accepts
+    room-passed h =
+        let rows = (p .full ⇒ StringRoom) ∷ (overfull after ⇒ BlobRoom) ∷ [] in
+        exactly rows (refl, (refl, tt)) .accepted .0 (sym says ∙ accepts-done b h) .1 .0
+
+    pub answered-second : Tests w blob strings name m (record { answer = b; offset = p .offset; added = p .added; after = after })
+    unfolding propertyAnswer propertyRows roundUp
+    answered-second =
+        let f = first-fits r in
+        let s = settled w strings name (f .names) in
+        record {
+          passed =
+              λ h.
+              let used = ap (λ (x : Record). x .«blob_used») grew in
+              let within : after .«blob_used» ≤ w .«blob_room» =
+              omega (arith, not-overfull after (room-passed h), ap (λ (x : Record). x .«blob_room») grew)
+              in
+              record {
+                offset-is = placed .offset-is;
+                added-is = placed .added-is;
+                name-fits = rw (placed .offset-is, placed .added-is) (s .fits);
+                frame-fits =
+                    record {
+                      ends = used;
+                      within = omega (arith, within, f .blob-fits .within);
+                      small = omega (arith, used, within, f .blob-fits .small);
+                      near = omega (arith, placed .offset-is, s .offset);
+                    };
+              };
+          answered =
+              λ v k.
+              says-of v k
+              ∙ sym (goes-on _ (first-refusals w (length blob) strings name (misfitValue v) (zeroValue v)) (told-of v k) _ r);
+          after-is = λ v k h. (in-order v k, after-of v k);
+        }

@@ -1,2 +1,2 @@
+pub mod Placeholder
 pub mod Property
-pub mod Tested

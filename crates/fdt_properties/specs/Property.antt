@@ -1,19 +1,18 @@
 -- What `property` and the calls of its kinds answer and leave (document 01: property tests 18, 17, 2, 1, 5, 11, 15, 14;
 -- string and string list 18, 17, 5 for a value, then as property).
 use mathlib.Core.Path.{_≡_}
-use mathlib.Core.Bool.{Bool, true, false, not}
+use mathlib.Core.Bool.{Bool, not}
 use mathlib.Core.List.{List, [], _∷_, _++_}
 use Prim.Native.Nat.{ℕ, _+_}
 use lib.Dec.{eqb}
-use lib.ListN.{length, take}
-use Rattle.fdt_bytes.specs.Padding.{roundUp}
+use lib.ListN.{length, take, getD}
 use Rattle.fdt_bytes.specs.Splice.{splice}
 use Rattle.fdt_names.specs.Grammar.{matches}
 use Rattle.fdt_names.specs.Names.{propertyName, hasZero}
 use Rattle.fdt_strings.specs.declared.Interned.{Interned}
 use Rattle.fdt_strings.specs.declared.Interned.the-variants as place
 use Rattle.fdt_strings.specs.Entries.{entry}
-use Rattle.fdt_strings.specs.Interned.{interned}
+use Rattle.fdt_strings.specs.Interned.{interned, numberOf, valuesOf}
 use Rattle.fdt_format.specs.Tokens.{propertyBytes}
 use Rattle.fdt_values.specs.Value.{Value, valueBytes, misfitValue, zeroValue}
 use Rattle.fdt_record.specs.declared.Answer.{Answer}
@@ -22,53 +21,21 @@ use Rattle.fdt_record.specs.declared.Outcome.{Outcome}
 use Rattle.fdt_record.specs.declared.Record.{Record}
 use Rattle.fdt_record.specs.Answers.{upon}
 use Rattle.fdt_record.specs.Fields.{withUsedBlob, withUsedStrings}
-use Rattle.fdt_record.specs.Misfits.{noRoom}
+use Rattle.fdt_record.specs.Misfits.{overfull}
 use Rattle.fdt_record.specs.Rows.{Row, _⇒_, first}
 use Rattle.fdt_record.specs.Tests.{stringsRows}
 
--- where the name stands in the used strings, or would stand
+-- the name's place: where it stands in the used strings, or would stand
 unfoldable pub placeOf : Record → List ℕ → List ℕ → Interned
 placeOf w strings name = interned (take (w .«strings_used») strings) (w .«strings_room») name
 
 -- a new name and its 0 don't fit
 unfoldable pub isFull : Interned → Bool
-isFull (place.Known offset) = false
-isFull (place.New offset) = false
-isFull place.StringRoom = true
+isFull p = eqb (numberOf p) 15
 
--- the tests of the record and of the value, in their order; `misfit` and `zero` are the value's
-unfoldable pub stateRows : Record → ℕ → List ℕ → Bool → Bool → List Row
-stateRows w lent strings misfit zero =
-    stringsRows w lent strings
-    ++ (misfit ⇒ Misfit)
-    ∷ (zero ⇒ InvalidString)
-    ∷ (w .«node_ended» ⇒ PropertyAfterEndNode)
-    ∷ (eqb (w .«node_depth») 0 ⇒ PropertyBeforeBeginNode)
-    ∷ []
-
--- the tests of the name and of the rooms, in their order, for a value of so many bytes
-unfoldable pub nameRows : Record → List ℕ → List ℕ → ℕ → List Row
-nameRows w strings name len =
-    (hasZero name ⇒ InvalidString)
-    ∷ (not (matches propertyName name) ⇒ InvalidPropertyName)
-    ∷ (isFull (placeOf w strings name) ⇒ StringRoom)
-    ∷ (noRoom w (12 + roundUp 4 len) ⇒ BlobRoom)
-    ∷ []
-
--- all tests
-unfoldable pub propertyRows : Record → ℕ → List ℕ → List ℕ → Value → List Row
-propertyRows w lent strings name v =
-    stateRows w lent strings (misfitValue v) (zeroValue v) ++ nameRows w strings name (length (valueBytes v))
-
--- the answer
-unfoldable pub propertyAnswer : Record → ℕ → List ℕ → List ℕ → Value → Answer
-propertyAnswer w lent strings name v = first (propertyRows w lent strings name v)
-
--- the name's offset
+-- the name's offset: the value that its place has
 unfoldable pub placeOffset : Interned → ℕ
-placeOffset (place.Known offset) = offset
-placeOffset (place.New offset) = offset
-placeOffset place.StringRoom = 0
+placeOffset p = getD (valuesOf p) 0 0
 
 -- how many bytes a new name adds to the used strings
 unfoldable pub added : Interned → List ℕ → ℕ
@@ -92,25 +59,53 @@ propertyRecord w strings name v =
     withUsedStrings (w .«strings_used» + added (placeOf w strings name) name)
     (withUsedBlob (w .«blob_used» + length (written w strings name v)) w)
 
+-- the tests of the record and of the value, in their order; `misfit` and `zero` are the value's
+unfoldable pub stateRows : Record → ℕ → List ℕ → Bool → Bool → List Row
+stateRows w lent strings misfit zero =
+    stringsRows w lent strings
+    ++ (misfit ⇒ Misfit)
+    ∷ (zero ⇒ InvalidString)
+    ∷ (w .«node_ended» ⇒ PropertyAfterEndNode)
+    ∷ (eqb (w .«node_depth») 0 ⇒ PropertyBeforeBeginNode)
+    ∷ []
+
+-- the tests of the name, in their order
+unfoldable pub nameRows : List ℕ → List Row
+nameRows name = (hasZero name ⇒ InvalidString) ∷ (not (matches propertyName name) ⇒ InvalidPropertyName) ∷ []
+
+-- the tests of the rooms, in their order: of the name's place, and of the record that the call would leave
+unfoldable pub roomRows : Record → List ℕ → List ℕ → Value → List Row
+roomRows w strings name v =
+    (isFull (placeOf w strings name) ⇒ StringRoom) ∷ (overfull (propertyRecord w strings name v) ⇒ BlobRoom) ∷ []
+
+-- all tests
+unfoldable pub propertyRows : Record → List ℕ → List ℕ → List ℕ → Value → List Row
+propertyRows w blob strings name v =
+    (stateRows w (length blob) strings (misfitValue v) (zeroValue v) ++ nameRows name) ++ roomRows w strings name v
+
+-- the answer
+unfoldable pub propertyAnswer : Record → List ℕ → List ℕ → List ℕ → Value → Answer
+propertyAnswer w blob strings name v = first (propertyRows w blob strings name v)
+
 -- the answer and the record
-unfoldable pub property : Record → ℕ → List ℕ → List ℕ → Value → Outcome
-property w lent strings name v = record {
-  answer = propertyAnswer w lent strings name v;
-  after = upon (propertyAnswer w lent strings name v) (propertyRecord w strings name v) w;
+unfoldable pub property : Record → List ℕ → List ℕ → List ℕ → Value → Outcome
+property w blob strings name v = record {
+  answer = propertyAnswer w blob strings name v;
+  after = upon (propertyAnswer w blob strings name v) (propertyRecord w strings name v) w;
 }
 
 -- the blob afterwards: an accepted property's bytes at the used length, and nothing else changed
 unfoldable pub propertyBlob : Record → List ℕ → List ℕ → List ℕ → Value → List ℕ
 propertyBlob w blob strings name v =
-    upon (propertyAnswer w (length blob) strings name v) (splice (w .«blob_used») (written w strings name v) blob) blob
+    upon (propertyAnswer w blob strings name v) (splice (w .«blob_used») (written w strings name v) blob) blob
 
 -- the strings afterwards: a new name of an accepted property, and nothing else changed
-unfoldable pub propertyStrings : Record → ℕ → List ℕ → List ℕ → Value → List ℕ
-propertyStrings w lent strings name v =
-    upon (propertyAnswer w lent strings name v) (stored (placeOf w strings name) name strings) strings
+unfoldable pub propertyStrings : Record → List ℕ → List ℕ → List ℕ → Value → List ℕ
+propertyStrings w blob strings name v =
+    upon (propertyAnswer w blob strings name v) (stored (placeOf w strings name) name strings) strings
 
 -- the outcome of a call
 pub record PropertyOutcome (w : Record) (blob strings name : List ℕ) (v : Value) (r : Outcome) (blobAfter stringsAfter : List ℕ) : Type 0 where
-  pub result : r ≡ property w (length blob) strings name v
+  pub result : r ≡ property w blob strings name v
   pub bytes : blobAfter ≡ propertyBlob w blob strings name v
-  pub names : stringsAfter ≡ propertyStrings w (length blob) strings name v
+  pub names : stringsAfter ≡ propertyStrings w blob strings name v

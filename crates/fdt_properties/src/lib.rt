@@ -1,59 +1,74 @@
-// Writing a property of any kind, and recording phandles.
+// Writing a property: its tests, its name in the strings, its words and padding, and then its value.
 ghost use mathlib.Core.Path.{_≡_};
-ghost use mathlib.Core.List.{List};
-ghost use Prim.Native.Nat.{ℕ, _+_, _≤_, _<_, _^_};
+ghost use mathlib.Core.List.{[], _∷_, _++_};
+ghost use Prim.Native.Nat.{_+_, _-_, _≤_, _<_, _^_};
 ghost use lib.ListN.{length};
 ghost use Rattle.fdt_bytes.specs.Padding.{roundUp};
-ghost use Rattle.fdt_bytes.specs.Splice.{splice};
-ghost use Rattle.fdt_format.specs.Tokens.{propertyBytes};
-ghost use Rattle.fdt_values.specs.Value.{valueBytes, valueOf};
+ghost use Rattle.fdt_record.specs.declared.Answer.the-variants.{StringRoom, BlobRoom};
 ghost use Rattle.fdt_record.specs.Fields.{withUsedBlob, withUsedStrings};
-ghost use Rattle.fdt_record.specs.Rows.{first};
-ghost use Rattle.fdt_properties.specs.Tested.{PropertyTested, PlaceFits, PutFits};
-ghost use Rattle.fdt_properties.specs.Property.{placeOf, isFull, placeOffset, added, stored, stateRows, nameRows, PropertyOutcome};
+ghost use Rattle.fdt_record.specs.Misfits.{overfull};
+ghost use Rattle.fdt_record.specs.Rows.{_⇒_, first};
+ghost use Rattle.fdt_values.specs.Value.{Value, raw, cells, texts};
+ghost use Rattle.fdt_properties.specs.Placeholder.{PlaceIs, Measures, Tests, NameFits, storedAt, FrameFits, framed, Placeholder};
+ghost use Rattle.fdt_properties.specs.Property.{placeOf, stateRows, nameRows, PropertyOutcome};
 use fdt_format::FDT_PROP;
 use fdt_record::Answer;
 use fdt_record::Outcome;
 use fdt_record::Record;
 use fdt_strings::Interned;
-use fdt_values::Kind;
 
-// Whether a new name does not fit.
-fn is_full(place: Interned) -> bool
-    ensures { λ r. ⌜ r ≡ isFull place ⌝ }
-{
-    match place {
-        Interned::Known(_) => false,
-        Interned::New(_) => false,
-        Interned::StringRoom => true,
-    }
+// What the tests ask of a value: whether its lengths do not sum to its bytes, whether a string has a byte 0, how many bytes it takes.
+struct Measured {
+    misfit: bool,
+    zero: bool,
+    len: usize,
 }
 
-// The offset of a name.
-fn place_offset(place: Interned) -> usize
-    ensures { λ r. ⌜ r ≡ placeOffset place ⌝ }
-{
-    match place {
-        Interned::Known(offset) => offset,
-        Interned::New(offset) => offset,
-        Interned::StringRoom => 0,
-    }
+// A name's place: whether it has none, its offset, and how many bytes it adds to the used strings.
+struct Place {
+    full: bool,
+    offset: usize,
+    added: usize,
 }
 
-// How many bytes a name adds to the used strings.
-fn added_by(place: Interned, name: &[u8]) -> usize
-    ensures { λ r. ⌜ r ≡ added place (now (name .entry)) ⌝ }
-{
-    match place {
-        Interned::Known(_) => 0,
-        Interned::New(_) => name.len() + 1,
-        Interned::StringRoom => 0,
-    }
+// The answer of all tests and, if they are passed, the name's place and the record after the call.
+struct Tested {
+    answer: Answer,
+    offset: usize,
+    added: usize,
+    after: Record,
 }
 
-// The tests of the record and of the value, in their order.
-fn state_tests(w: Record, lent: usize, strings: &[u8], misfit: bool, zero: bool) -> Answer
-    ensures { λ r. ⌜ r ≡ first (stateRows w lent (now (strings .entry)) misfit zero) ⌝ }
+// The answer, the record after the call and, if it is accepted, where the value goes.
+struct Placed {
+    answer: Answer,
+    after: Record,
+    at: usize,
+}
+
+// The tests of the name: 5, 11.
+fn name_tests(name: &[u8]) -> Answer
+    ensures { λ r. ⌜ r ≡ first (nameRows (now (name .entry))) ⌝ }
+{
+    if fdt_names::has_zero(name) {
+        return Answer::InvalidString;
+    }
+    if !fdt_names::property_name_valid(name) {
+        return Answer::InvalidPropertyName;
+    }
+    Answer::Done
+}
+
+// The tests that do not search the strings: 18, 17, 5 for a value, 2, 1, 5, 11.
+fn first_tests(
+    w: Record,
+    lent: usize,
+    strings: &[u8],
+    name: &[u8],
+    misfit: bool,
+    zero: bool,
+) -> Answer
+    ensures { λ r. ⌜ r ≡ first (stateRows w lent (now (strings .entry)) misfit zero ++ nameRows (now (name .entry))) ⌝ }
 {
     let answer = fdt_record::or_misfit(fdt_record::strings_tests(w, lent, strings), misfit);
     if !fdt_record::accepted(answer) {
@@ -68,110 +83,35 @@ fn state_tests(w: Record, lent: usize, strings: &[u8], misfit: bool, zero: bool)
     if w.node_depth == 0 {
         return Answer::PropertyBeforeBeginNode;
     }
-    Answer::Done
+    name_tests(name)
 }
 
-// Where a name stands in the used strings, or would stand.
-fn place_of(w: Record, strings: &[u8], name: &[u8]) -> Interned
+// Looks for a name in the used strings.
+fn place_of(w: Record, strings: &[u8], name: &[u8]) -> Place
     requires { ⌜ w .«strings_used» ≤ length (now strings) ⌝ }
-    ensures { λ r. ⌜ r ≡ placeOf w (now (strings .entry)) (now (name .entry)) ⌝ }
+    ensures { λ r. ⌜ PlaceIs (placeOf w (now (strings .entry)) (now (name .entry))) (now (name .entry)) r ⌝ }
 {
     let used = w.strings_used;
-    fdt_strings::intern_string(&strings[..used], w.strings_room, name)
-}
-
-// The tests of the name, whose place is known, and of the rooms, in their order.
-fn name_tests(w: Record, name: &[u8], place: Interned, len: usize) -> Answer
-    requires { ⌜ len < 2 ^ 63 + 2 ^ 62 ⌝ }
-    ensures { λ r. ⌜ ((strings : List ℕ) → place ≡ placeOf w strings (now (name .entry)) → r ≡ first (nameRows w strings (now (name .entry)) len)) ⌝ }
-{
-    if fdt_names::has_zero(name) {
-        return Answer::InvalidString;
-    }
-    if !fdt_names::property_name_valid(name) {
-        return Answer::InvalidPropertyName;
-    }
-    if is_full(place) {
-        return Answer::StringRoom;
-    }
-    if fdt_record::no_room(w, 12 + (len + fdt_bytes::padding_of(len, 4))) {
-        return Answer::BlobRoom;
-    }
-    Answer::Done
-}
-
-// Stores a new name with its 0.
-fn store_name(strings: &mut [u8], place: Interned, name: &[u8])
-    requires { ⌜ PlaceFits place (now name) (now strings) ⌝ }
-    ensures { λ _. ⌜ now (strings .exit) ≡ stored place (now (name .entry)) (now (strings .entry)) ⌝ }
-{
-    if let Interned::New(offset) = place {
-        fdt_strings::store_string(strings, offset, name);
+    match fdt_strings::intern_string(&strings[..used], w.strings_room, name) {
+        Interned::Known(offset) => Place {
+            full: false,
+            offset,
+            added: 0,
+        },
+        Interned::New(offset) => Place {
+            full: false,
+            offset,
+            added: name.len() + 1,
+        },
+        Interned::StringRoom => Place {
+            full: true,
+            offset: 0,
+            added: 0,
+        },
     }
 }
 
-// The answer of all tests and, where they are passed, where the name stands and how long the value is.
-struct Tested {
-    answer: Answer,
-    place: Interned,
-    len: usize,
-}
-
-// The tests of a property, in their order.
-fn property_tests(
-    w: Record,
-    lent: usize,
-    strings: &[u8],
-    name: &[u8],
-    kind: Kind,
-    bytes: &[u8],
-    cells: &[u32],
-    wide: &[u64],
-    lengths: &[usize],
-) -> Tested
-    ensures { λ r. ⌜ PropertyTested w lent (now (strings .entry)) (now (name .entry)) (valueOf kind (now (bytes .entry)) (now (cells .entry)) (now (wide .entry)) (now (lengths .entry))) (r .answer) (r .place) (r .len) ⌝ }
-{
-    let misfit = fdt_values::misfit_value(kind, bytes, cells, wide, lengths);
-    let zero = fdt_values::zero_value(kind, bytes, cells, wide, lengths);
-    let answer = state_tests(w, lent, strings, misfit, zero);
-    if !fdt_record::accepted(answer) {
-        return Tested {
-            answer,
-            place: Interned::StringRoom,
-            len: 0,
-        };
-    }
-    let len = fdt_values::value_length(kind, bytes, cells, wide, lengths);
-    let place = place_of(w, strings, name);
-    Tested {
-        answer: name_tests(w, name, place, len),
-        place,
-        len,
-    }
-}
-
-// Writes a property into the rest of the blob, from the used length on.
-fn put_property(
-    blob: &mut [u8],
-    used: usize,
-    offset: usize,
-    len: usize,
-    kind: Kind,
-    bytes: &[u8],
-    cells: &[u32],
-    wide: &[u64],
-    lengths: &[usize],
-)
-    requires { ⌜ PutFits used offset len (length (now blob)) (valueOf kind (now bytes) (now cells) (now wide) (now lengths)) ⌝ }
-    ensures { λ _. ⌜ now (blob .exit) ≡ splice used (propertyBytes offset (valueBytes (valueOf kind (now (bytes .entry)) (now (cells .entry)) (now (wide .entry)) (now (lengths .entry))))) (now (blob .entry)) ⌝ }
-{
-    fdt_bytes::cells_at(blob, used, &[FDT_PROP, len as u32, offset as u32]);
-    let at = used + 12;
-    fdt_values::value_at(blob, at, kind, bytes, cells, wide, lengths);
-    fdt_bytes::zeros_at(blob, at + len, fdt_bytes::padding_of(len, 4));
-}
-
-// The record after a property of so many bytes, whose name adds so many to the strings.
+// The record after a property with a value of `len` bytes, whose name adds so many bytes to the strings.
 fn after_property(w: Record, len: usize, added: usize) -> Record
     requires { ⌜ w .«blob_used» + (12 + roundUp 4 len) < 2 ^ 64 ⌝ }
     requires { ⌜ w .«strings_used» + added < 2 ^ 64 ⌝ }
@@ -183,50 +123,191 @@ fn after_property(w: Record, len: usize, added: usize) -> Record
     after
 }
 
-// Writes a property whose value is given by its kind: as bytes, as numbers, or as strings with their lengths.
-pub fn write_property(
+// The tests of the rooms: 15, 14.
+fn room_tests(full: bool, after: Record) -> Answer
+    ensures { λ r. ⌜ r ≡ first ((full ⇒ StringRoom) ∷ (overfull after ⇒ BlobRoom) ∷ []) ⌝ }
+{
+    if full {
+        return Answer::StringRoom;
+    }
+    if fdt_record::overfull(after) {
+        return Answer::BlobRoom;
+    }
+    Answer::Done
+}
+
+// All tests of a property, in their order.
+fn property_tests(w: Record, blob: &[u8], strings: &[u8], name: &[u8], value: Measured) -> Tested
+    requires { ⌜ value .len < 2 ^ 63 + 2 ^ 62 ⌝ }
+    ensures { λ r. ⌜ Tests w (now (blob .entry)) (now (strings .entry)) (now (name .entry)) value r ⌝ }
+{
+    let answer = first_tests(w, blob.len(), strings, name, value.misfit, value.zero);
+    if !fdt_record::accepted(answer) {
+        return Tested {
+            answer,
+            offset: 0,
+            added: 0,
+            after: w,
+        };
+    }
+    let place = place_of(w, strings, name);
+    let after = after_property(w, value.len, place.added);
+    Tested {
+        answer: room_tests(place.full, after),
+        offset: place.offset,
+        added: place.added,
+        after,
+    }
+}
+
+// Stores a name that adds bytes to the strings, with its 0.
+fn store_name(strings: &mut [u8], offset: usize, added: usize, name: &[u8])
+    requires { ⌜ NameFits offset added (now name) (now strings) ⌝ }
+    ensures { λ _. ⌜ now (strings .exit) ≡ storedAt offset added (now (name .entry)) (now (strings .entry)) ⌝ }
+{
+    if added != 0 {
+        fdt_strings::store_string(strings, offset, name);
+    }
+}
+
+// Writes a property's words from the used length on, and zeros from behind its value to the end.
+fn put_frame(blob: &mut [u8], used: usize, offset: usize, len: usize, end: usize)
+    requires { ⌜ FrameFits used offset len end (length (now blob)) ⌝ }
+    ensures { λ _. ⌜ now (blob .exit) ≡ framed used offset len end (now (blob .entry)) ⌝ }
+{
+    fdt_bytes::cells_at(blob, used, &[FDT_PROP, len as u32, offset as u32]);
+    let behind = used + 12 + len;
+    fdt_bytes::zeros_at(blob, behind, end - behind);
+}
+
+// Makes all tests and writes the property except its value: its name, its words and its padding.
+fn property_placeholder(
     w: Record,
     blob: &mut [u8],
     strings: &mut [u8],
     name: &[u8],
-    kind: Kind,
-    bytes: &[u8],
-    cells: &[u32],
-    wide: &[u64],
-    lengths: &[usize],
-) -> Outcome
-    ensures { λ r. ⌜ PropertyOutcome w (now (blob .entry)) (now (strings .entry)) (now (name .entry)) (valueOf kind (now (bytes .entry)) (now (cells .entry)) (now (wide .entry)) (now (lengths .entry))) r (now (blob .exit)) (now (strings .exit)) ⌝ }
+    value: Measured,
+) -> Placed
+    requires { ⌜ value .len < 2 ^ 63 + 2 ^ 62 ⌝ }
+    ensures { λ r. ⌜ ((v : Value) → Measures value v → Placeholder w (now (blob .entry)) (now (strings .entry)) (now (name .entry)) v r (now (blob .exit)) (now (strings .exit))) ⌝ }
 {
-    let tested = property_tests(
-        w,
-        blob.len(),
-        strings,
-        name,
-        kind,
-        bytes,
-        cells,
-        wide,
-        lengths,
-    );
+    let tested = property_tests(w, blob, strings, name, value);
     let answer = tested.answer;
     if !fdt_record::accepted(answer) {
-        return Outcome { answer, after: w };
+        return Placed {
+            answer,
+            after: w,
+            at: 0,
+        };
     }
-    let place = tested.place;
-    let len = tested.len;
+    let after = tested.after;
     let used = w.blob_used;
-    let after = after_property(w, len, added_by(place, name));
-    store_name(strings, place, name);
-    put_property(
-        blob,
-        used,
-        place_offset(place),
-        len,
-        kind,
-        bytes,
-        cells,
-        wide,
-        lengths,
-    );
+    store_name(strings, tested.offset, tested.added, name);
+    put_frame(blob, used, tested.offset, value.len, after.blob_used);
+    Placed {
+        answer,
+        after,
+        at: used + 12,
+    }
+}
+
+// Writes a property of bytes.
+pub fn write_bytes(
+    w: Record,
+    blob: &mut [u8],
+    strings: &mut [u8],
+    name: &[u8],
+    val: &[u8],
+) -> Outcome
+    ensures { λ r. ⌜ PropertyOutcome w (now (blob .entry)) (now (strings .entry)) (now (name .entry)) (raw (now (val .entry))) r (now (blob .exit)) (now (strings .exit)) ⌝ }
+{
+    let value = Measured {
+        misfit: false,
+        zero: false,
+        len: val.len(),
+    };
+    let placed = property_placeholder(w, blob, strings, name, value);
+    let answer = placed.answer;
+    let after = placed.after;
+    if !fdt_record::accepted(answer) {
+        return Outcome { answer, after };
+    }
+    fdt_bytes::bytes_at(blob, placed.at, val);
+    Outcome { answer, after }
+}
+
+// Writes a property of numbers of 4 bytes.
+pub fn write_cells(
+    w: Record,
+    blob: &mut [u8],
+    strings: &mut [u8],
+    name: &[u8],
+    numbers: &[u32],
+) -> Outcome
+    ensures { λ r. ⌜ PropertyOutcome w (now (blob .entry)) (now (strings .entry)) (now (name .entry)) (cells 4 (now (numbers .entry))) r (now (blob .exit)) (now (strings .exit)) ⌝ }
+{
+    let value = Measured {
+        misfit: false,
+        zero: false,
+        len: 4 * numbers.len(),
+    };
+    let placed = property_placeholder(w, blob, strings, name, value);
+    let answer = placed.answer;
+    let after = placed.after;
+    if !fdt_record::accepted(answer) {
+        return Outcome { answer, after };
+    }
+    fdt_bytes::cells_at(blob, placed.at, numbers);
+    Outcome { answer, after }
+}
+
+// Writes a property of numbers of 8 bytes.
+pub fn write_wide_cells(
+    w: Record,
+    blob: &mut [u8],
+    strings: &mut [u8],
+    name: &[u8],
+    numbers: &[u64],
+) -> Outcome
+    ensures { λ r. ⌜ PropertyOutcome w (now (blob .entry)) (now (strings .entry)) (now (name .entry)) (cells 8 (now (numbers .entry))) r (now (blob .exit)) (now (strings .exit)) ⌝ }
+{
+    let value = Measured {
+        misfit: false,
+        zero: false,
+        len: 8 * numbers.len(),
+    };
+    let placed = property_placeholder(w, blob, strings, name, value);
+    let answer = placed.answer;
+    let after = placed.after;
+    if !fdt_record::accepted(answer) {
+        return Outcome { answer, after };
+    }
+    fdt_bytes::wide_cells_at(blob, placed.at, numbers);
+    Outcome { answer, after }
+}
+
+// Writes a property of strings, given as their joined bytes and their lengths.
+pub fn write_texts(
+    w: Record,
+    blob: &mut [u8],
+    strings: &mut [u8],
+    name: &[u8],
+    joined: &[u8],
+    lengths: &[usize],
+) -> Outcome
+    ensures { λ r. ⌜ PropertyOutcome w (now (blob .entry)) (now (strings .entry)) (now (name .entry)) (texts (now (joined .entry)) (now (lengths .entry))) r (now (blob .exit)) (now (strings .exit)) ⌝ }
+{
+    let value = Measured {
+        misfit: !fdt_values::sums_to(lengths, joined.len()),
+        zero: fdt_names::has_zero(joined),
+        len: joined.len() + lengths.len(),
+    };
+    let placed = property_placeholder(w, blob, strings, name, value);
+    let answer = placed.answer;
+    let after = placed.after;
+    if !fdt_record::accepted(answer) {
+        return Outcome { answer, after };
+    }
+    fdt_values::texts_at(blob, placed.at, joined, lengths);
     Outcome { answer, after }
 }

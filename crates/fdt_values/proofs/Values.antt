@@ -1,18 +1,17 @@
--- Laws of values: sums of lengths, how strings with their zeros join, and how many bytes a value takes.
+-- Laws of values: sums of lengths, how strings with their zeros join, and how many bytes they take.
 use mathlib.Core.Path.{_≡_, refl, sym, ap, _∙_}
 use mathlib.Core.Bool.{false}
 use mathlib.Core.List.{List, [], _∷_, _++_, append-assoc, append-nil}
-use Prim.Native.Nat.{ℕ, zero, suc, _+_, _*_, _≤_, _<_}
+use Prim.Native.Nat.{ℕ, zero, suc, _+_, _≤_, _<_}
 use native.Mathlib.Numerals.{add-one}
 use native.Mathlib.Omega.{arith}
 use borrow.Author.Tests.{eq-eqb, ne-eqb, eqb-true, not-false}
 use lib.Dec.{eqb}
 use lib.ListN.{length, take, drop, getD, length-append, length-drop, take-append-drop}
 use lib.Seq.{length-take-le, take-all, take-length, take-suc, drop-drop}
-use Rattle.fdt_bytes.proofs.BigEndian.{length-cells}
 use Rattle.fdt_strings.specs.Entries.{entry}
 use Rattle.fdt_strings.proofs.Entries.{length-entry}
-use Rattle.fdt_values.specs.Value.{Value, raw, cells, texts, textBytes, valueBytes, sum, misfitValue}
+use Rattle.fdt_values.specs.Value.{texts, textBytes, sum, misfitValue}
 
 -- ---- sums
 
@@ -75,19 +74,3 @@ length-texts joined ns e = omega (arith, length-texts-within joined ns (omega ar
 pub fits-texts : (joined ns : List ℕ) → misfitValue (texts joined ns) ≡ false → sum ns ≡ length joined
 unfolding misfitValue
 fits-texts joined ns h = eqb-true (sum ns) (length joined) (not-false (eqb (sum ns) (length joined)) h)
-
--- how many bytes a value in order takes, by its constructor
-abbrev pub valueLength : Value → ℕ
-valueLength (raw bytes) = length bytes
-valueLength (cells width numbers) = width * length numbers
-valueLength (texts joined ns) = length joined + length ns
-
-pub length-value : (v : Value) → misfitValue v ≡ false → length (valueBytes v) ≡ valueLength v
-unfolding valueBytes
-length-value (raw bytes) h = refl
-length-value (cells width numbers) h = length-cells width numbers
-length-value (texts joined ns) h = length-texts joined ns (fits-texts joined ns h)
-
--- so many bytes fit where the value fits
-pub room-value : (v : Value) (at n : ℕ) → misfitValue v ≡ false → at + length (valueBytes v) ≤ n → at + valueLength v ≤ n
-room-value v at n m h = omega (arith, length-value v m)

@@ -1,6 +1,5 @@
--- The values of a property, by the kind of call that gives them, and their bytes (document 01, pieces 6 and 7).
-use mathlib.Core.Path.{_≡_}
-use Prim.Native.Nat.{ℕ, _+_, _<_, _^_}
+-- The values of a property, and their bytes (document 01, pieces 6 and 7).
+use Prim.Native.Nat.{ℕ, _+_}
 use mathlib.Core.Bool.{Bool, false, not}
 use mathlib.Core.List.{List, [], _∷_, _++_}
 use lib.Dec.{eqb}
@@ -8,8 +7,6 @@ use lib.ListN.{length, take, drop}
 use Rattle.fdt_bytes.specs.BigEndian.{cellBytes}
 use Rattle.fdt_names.specs.Names.{hasZero}
 use Rattle.fdt_strings.specs.Entries.{entry}
-use Rattle.fdt_values.specs.declared.Kind.{Kind}
-use Rattle.fdt_values.specs.declared.Kind.the-variants.{Bytes, Cells, WideCells, Texts}
 
 -- a value: bytes as they are, numbers of one width, or strings as their joined bytes and their lengths
 pub data Value : Type 0 where
@@ -44,15 +41,3 @@ unfoldable pub zeroValue : Value → Bool
 zeroValue (raw bytes) = false
 zeroValue (cells width numbers) = false
 zeroValue (texts joined lengths) = hasZero joined
-
--- the value that the code's arguments stand for
-abbrev pub valueOf : Kind → List ℕ → List ℕ → List ℕ → List ℕ → Value
-valueOf Bytes bytes numbers wide lengths = raw bytes
-valueOf Cells bytes numbers wide lengths = cells 4 numbers
-valueOf WideCells bytes numbers wide lengths = cells 8 wide
-valueOf Texts bytes numbers wide lengths = texts bytes lengths
-
--- how many bytes a value takes, where it is in order; never so many that a sum with the rest of a call could wrap
-pub record ValueLength (v : Value) (n : ℕ) : Type 0 where
-  pub length-is : misfitValue v ≡ false → n ≡ length (valueBytes v)
-  pub small : n < 2 ^ 63 + 2 ^ 62

@@ -17,7 +17,6 @@ use fdt_nodes::FdtWriterNode;
 use fdt_record::Answer;
 use fdt_record::Outcome;
 use fdt_record::Record;
-use fdt_values::Kind;
 
 // A writer: what it knows of its buffers and of the calls so far.
 #[repr(C)]
@@ -107,16 +106,8 @@ impl FdtWriter {
     pub fn property(self, blob: &mut [u8], strings: &mut [u8], name: &[u8], val: &[u8]) -> Answered
         ensures { λ r. ⌜ PropertyOutcome (self .0) (now (blob .entry)) (now (strings .entry)) (now (name .entry)) (raw (now (val .entry))) (told r) (now (blob .exit)) (now (strings .exit)) ⌝ }
     {
-        wrapped(fdt_properties::write_property(
-            self.0,
-            blob,
-            strings,
-            name,
-            Kind::Bytes,
-            val,
-            &[],
-            &[],
-            &[],
+        wrapped(fdt_properties::write_bytes(
+            self.0, blob, strings, name, val,
         ))
     }
 
@@ -151,16 +142,8 @@ impl FdtWriter {
     ) -> Answered
         ensures { λ r. ⌜ PropertyOutcome (self .0) (now (blob .entry)) (now (strings .entry)) (now (name .entry)) (texts (now (values .entry)) (now (lengths .entry))) (told r) (now (blob .exit)) (now (strings .exit)) ⌝ }
     {
-        wrapped(fdt_properties::write_property(
-            self.0,
-            blob,
-            strings,
-            name,
-            Kind::Texts,
-            values,
-            &[],
-            &[],
-            lengths,
+        wrapped(fdt_properties::write_texts(
+            self.0, blob, strings, name, values, lengths,
         ))
     }
 
@@ -200,16 +183,8 @@ impl FdtWriter {
     ) -> Answered
         ensures { λ r. ⌜ PropertyOutcome (self .0) (now (blob .entry)) (now (strings .entry)) (now (name .entry)) (cells 4 (now (numbers .entry))) (told r) (now (blob .exit)) (now (strings .exit)) ⌝ }
     {
-        wrapped(fdt_properties::write_property(
-            self.0,
-            blob,
-            strings,
-            name,
-            Kind::Cells,
-            &[],
-            numbers,
-            &[],
-            &[],
+        wrapped(fdt_properties::write_cells(
+            self.0, blob, strings, name, numbers,
         ))
     }
 
@@ -223,16 +198,8 @@ impl FdtWriter {
     ) -> Answered
         ensures { λ r. ⌜ PropertyOutcome (self .0) (now (blob .entry)) (now (strings .entry)) (now (name .entry)) (cells 8 (now (numbers .entry))) (told r) (now (blob .exit)) (now (strings .exit)) ⌝ }
     {
-        wrapped(fdt_properties::write_property(
-            self.0,
-            blob,
-            strings,
-            name,
-            Kind::WideCells,
-            &[],
-            &[],
-            numbers,
-            &[],
+        wrapped(fdt_properties::write_wide_cells(
+            self.0, blob, strings, name, numbers,
         ))
     }
 

@@ -1,27 +1,21 @@
--- `store_name` meets its contract: a new name is stored where it fits, and a known one is left alone.
-use mathlib.Core.Path.{sym, ap, subst, _∙_}
-use Rattle.fdt_strings.specs.declared.Interned.{Interned}
-use Rattle.fdt_properties.specs.Property.{stored}
-use Rattle.fdt_properties.specs.Tested.{PlaceFits}
-use Rattle.fdt_properties.proofs.Places.{not-new}
+-- `store_name` meets its contract: a name that adds bytes is stored where it fits, and one that adds none is left alone.
+use mathlib.Core.Path.{sym, _∙_}
 use borrow.Author.Needs.{needs}
+use borrow.Author.Tests.{eq-eqb, ne-eqb}
+use Rattle.fdt_properties.specs.Placeholder.{storedAt}
 use Rattle.fdt_properties.proofs.store_name.Statement.{statement}
 use Rattle.fdt_properties.proofs.store_name.Tie as tie
 
-store-string-requires : tie.Need-store-string-requires
-unfolding PlaceFits
-store-string-requires c κs =
-    let a = c .before .before .before .before .before .before .args in subst (λ (p : Interned). PlaceFits p (a .name .now) (a .strings .now)) (c .before .before .place .given .1) (c .before .before .before .before .before .before .pre)
-
 returns : tie.Need-returns
-unfolding stored
+unfolding storedAt
 returns c =
-    let a = c .before .before .before .before .before .before .before .before .before .args in
-    c .before .before .store-string .ensures ∙ ap (λ (p : Interned). stored p (a .name .now) (a .strings .now)) (sym (c .before .before .before .before .before .place .given .1))
+    let p = c .before .before .before .before in
+    c .before .before .store-string .ensures ∙ sym (simp (ne-eqb (p .before .before .before .args .added) 0 (p .if1 .taken)))
 
 returns-2 : tie.Need-returns-2
-returns-2 c = let a = c .before .before .before .args in sym (not-new (a .place) (a .name .now) (a .strings .now) (c .match .keys2))
+unfolding storedAt
+returns-2 c = sym (simp (eq-eqb (c .before .before .before .args .added) 0 (c .if1 .left)))
 
 pub store-name-spec : {M : Type 1} → statement M
 store-name-spec =
-    tie.close (tie.spec (λ c. search needs) store-string-requires (λ c. search needs) returns returns-2)
+    tie.close (tie.spec (λ c κs. c .before .before .before .before .pre (c .before .if1 .taken)) (λ c. search needs) returns returns-2)

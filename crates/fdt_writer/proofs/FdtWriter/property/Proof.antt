@@ -1,15 +1,14 @@
 -- `property` meets its contract: the call on the record ensures it of bytes.
-use mathlib.Core.Path.{refl}
 use Rattle.fdt_writer.proofs.FdtWriter.property.Statement.{statement}
 use Rattle.fdt_writer.proofs.FdtWriter.property.Tie as tie
 
 returns : tie.Need-returns
-returns c = rw (c .wrapped .ensures) (c .before .before .before .before .before .write-property .ensures)
+returns c = rw (c .wrapped .ensures) (c .before .before .before .before .before .write-bytes .ensures)
 
 pub property-spec : {M : Type 1} → statement M
 property-spec =
     tie.close
-    (tie.spec (λ c. refl) (λ c. refl) (λ c. refl) (λ c κs. tt) (λ c κs. tt)
-    (λ c. c .before .before .before .before .before .write-property .kept .1 .0)
-    (λ c. c .before .before .before .before .before .write-property .kept .1 .1 .0)
+    (tie.spec (λ c κs. tt) (λ c κs. tt)
+    (λ c. c .before .before .before .before .before .write-bytes .kept .1 .0)
+    (λ c. c .before .before .before .before .before .write-bytes .kept .1 .1 .0)
     returns)

@@ -1,15 +1,14 @@
 -- `property_string_list` meets its contract: the call on the record ensures it of strings.
-use mathlib.Core.Path.{refl}
 use Rattle.fdt_writer.proofs.FdtWriter.property_string_list.Statement.{statement}
 use Rattle.fdt_writer.proofs.FdtWriter.property_string_list.Tie as tie
 
 returns : tie.Need-returns
-returns c = rw (c .wrapped .ensures) (c .before .before .before .before .before .write-property .ensures)
+returns c = rw (c .wrapped .ensures) (c .before .before .before .before .before .write-texts .ensures)
 
 pub property-string-list-spec : {M : Type 1} → statement M
 property-string-list-spec =
     tie.close
-    (tie.spec (λ c. refl) (λ c. refl) (λ c κs. tt) (λ c κs. tt)
-    (λ c. c .before .before .before .before .before .write-property .kept .1 .0)
-    (λ c. c .before .before .before .before .before .write-property .kept .1 .1 .0)
+    (tie.spec (λ c κs. tt) (λ c κs. tt)
+    (λ c. c .before .before .before .before .before .write-texts .kept .1 .0)
+    (λ c. c .before .before .before .before .before .write-texts .kept .1 .1 .0)
     returns)

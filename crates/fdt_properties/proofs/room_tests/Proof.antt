@@ -1,0 +1,19 @@
+-- `room_tests` meets its contract: a test that fails is passed over, and the first that holds answers.
+use mathlib.Core.Path.{sym, _∙_}
+use borrow.Author.Needs.{needs}
+use Rattle.fdt_record.proofs.Rows.{skip, hit, done}
+use Rattle.fdt_properties.proofs.room_tests.Statement.{statement}
+use Rattle.fdt_properties.proofs.room_tests.Tie as tie
+
+returns : tie.Need-returns
+returns c = sym (hit _ _ (c .if1 .taken))
+
+returns-2 : tie.Need-returns-2
+returns-2 c = sym (skip _ _ (c .before .before .if1 .left) ∙ hit _ _ (sym (c .before .overfull .ensures) ∙ c .if2 .taken))
+
+returns-3 : tie.Need-returns-3
+returns-3 c =
+    sym (skip _ _ (c .before .before .if1 .left) ∙ skip _ _ (sym (c .before .overfull .ensures) ∙ c .if2 .left) ∙ done)
+
+pub room-tests-spec : {M : Type 1} → statement M
+room-tests-spec = tie.close (tie.spec returns (λ c κs. search needs) returns-2 returns-3)
