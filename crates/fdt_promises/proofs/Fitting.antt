@@ -29,7 +29,7 @@ use Rattle.fdt_record.proofs.Rows.{skip, hit}
 use Rattle.fdt_opening.specs.Opening.{openingRows, openingAnswer}
 use Rattle.fdt_nodes.specs.Begin.{beginRows, beginAnswer}
 use Rattle.fdt_nodes.specs.End.{endRows, endAnswer}
-use Rattle.fdt_properties.specs.Property.{stateRows, nameRows, propertyRows, propertyAnswer}
+use Rattle.fdt_properties.specs.Property.{stateRows, nameRows, roomRows, propertyRows, propertyAnswer}
 use Rattle.fdt_phandles.specs.Phandle.{phandleName, phandleValue, recordRows, recordAnswer, phandle}
 use Rattle.fdt_finish.specs.Boot.{bootAnswer}
 use Rattle.fdt_finish.specs.Finish.{finishRows, finishAnswer}
@@ -124,10 +124,10 @@ module _ {numbers : List ℕ} {es : List Event} {boot : ℕ} {marks : List ℕ} 
   other-end handle = let f = open-fits o in other (endRows (s .writer) (length (s .blob)) handle) (inr refl, (inl (f .figures), (inl (f .blob), (inr refl, (inr refl, tt)))))
 
   other-property : (name : List ℕ) (v : Value) → misfitValue v ≡ false → Other (answer (to-have name v) s)
-  unfolding answer propertyAnswer propertyRows stateRows nameRows stringsRows blobRows aloneRows Others
+  unfolding answer propertyAnswer propertyRows stateRows nameRows roomRows stringsRows blobRows aloneRows Others
   other-property name v m =
       let f = open-fits o in
-      other (propertyRows (s .writer) (length (s .blob)) (s .strings) name v)
+      other (propertyRows (s .writer) (s .blob) (s .strings) name v)
       (inr refl, (inl (f .figures), (inl (f .blob), (inl (f .strings), (inl m, (inr refl, (inr refl, (inr refl, (inr refl, (inr refl, (inr refl, (inr refl, tt))))))))))))
 
   -- a phandle, before its value is recorded

@@ -122,7 +122,7 @@ module _ {numbers : List ℕ} {es : List Event} {boot : ℕ} {marks : List ℕ} 
   had-open : (name : List ℕ) (v : Value) → answer (to-have name v) s ≡ Done → Open numbers (es ++ (has (name ≔ valueBytes v) ∷ [])) boot marks (after (to-have name v) s)
   unfolding answer written placeOf namesFrom namesOf eventBytes eventSize Plain Follows
   had-open name v e =
-      let f = property-fits (s .writer) (length (s .blob)) (s .strings) name v e in
+      let f = property-fits (s .writer) (s .blob) (s .strings) name v e in
       let event = has (name ≔ valueBytes v) in
       let g = named name (names-plain es (o .plain) no-entry) (o .holds .strings) (f .placed) in
       let p = placeOf (s .writer) (s .strings) name in

@@ -15,7 +15,7 @@ use Rattle.fdt_values.specs.Value.{Value}
 use Rattle.fdt_opening.specs.Opening.{openingRows, openingAnswer}
 use Rattle.fdt_nodes.specs.Begin.{beginRows, beginAnswer}
 use Rattle.fdt_nodes.specs.End.{endRows, endAnswer}
-use Rattle.fdt_properties.specs.Property.{stateRows, nameRows, propertyRows, propertyAnswer}
+use Rattle.fdt_properties.specs.Property.{stateRows, nameRows, roomRows, propertyRows, propertyAnswer}
 use Rattle.fdt_phandles.specs.Phandle.{phandleName, phandleValue, recordRows, recordAnswer, phandle}
 use Rattle.fdt_finish.specs.Boot.{bootAnswer}
 use Rattle.fdt_finish.specs.Finish.{finishRows, finishAnswer}
@@ -28,9 +28,9 @@ Neither34 a = not (eqb (numberOf a) 3 || eqb (numberOf a) 4) ≡ true
 
 -- a property, of every kind
 property-never : (name : List ℕ) (v : Value) (s : Desk) → Neither34 (answer (to-have name v) s)
-unfolding answer propertyAnswer propertyRows stateRows stringsRows blobRows aloneRows nameRows Every
+unfolding answer propertyAnswer propertyRows stateRows stringsRows blobRows aloneRows nameRows roomRows Every
 property-never name v s =
-    first-every Neither34 (propertyRows (s .writer) (length (s .blob)) (s .strings) name v) refl (refl, (refl, (refl, (refl, (refl, (refl, (refl, (refl, (refl, (refl, (refl, (refl, tt))))))))))))
+    first-every Neither34 (propertyRows (s .writer) (s .blob) (s .strings) name v) refl (refl, (refl, (refl, (refl, (refl, (refl, (refl, (refl, (refl, (refl, (refl, (refl, tt))))))))))))
 
 -- a phandle: before its value is recorded, and then as a property
 phandle-never : (value : ℕ) (s : Desk) → Neither34 (answer (to-mark value) s)

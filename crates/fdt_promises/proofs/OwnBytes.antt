@@ -16,7 +16,7 @@ use Rattle.fdt_strings.specs.Interned.{interned}
 use Rattle.fdt_strings.proofs.Places.{new-placed}
 use Rattle.fdt_header.specs.Header.{headerSize, headerBytes}
 use Rattle.fdt_format.specs.Tokens.{beginBytes, endBytes, finalBytes}
-use Rattle.fdt_format.proofs.Tokens.{length-end, length-final, length-property}
+use Rattle.fdt_format.proofs.Tokens.{length-end, length-final}
 use Rattle.fdt_values.specs.Value.{Value, valueBytes}
 use Rattle.fdt_record.specs.declared.Answer.the-variants.{Done}
 use Rattle.fdt_record.specs.declared.Outcome.{Outcome}
@@ -24,7 +24,7 @@ use Rattle.fdt_record.specs.declared.Record.{Record}
 use Rattle.fdt_record.specs.Limits.{blobCeiling, stringsCeiling, usable}
 use Rattle.fdt_record.proofs.Answers.{upon-done}
 use Rattle.fdt_record.proofs.Fits.{FitBlob, FitStrings}
-use Rattle.fdt_properties.specs.Property.{placeOf, isFull, placeOffset, added, stored, written, propertyAnswer, property, propertyBlob, propertyStrings, PropertyOutcome}
+use Rattle.fdt_properties.specs.Property.{placeOf, added, stored, written, propertyAnswer, property, propertyBlob, propertyStrings, PropertyOutcome}
 use Rattle.fdt_properties.proofs.Places.{settled}
 use Rattle.fdt_properties.proofs.Property.{property-fits}
 use Rattle.fdt_finish.specs.Finish.{usedStrings, finishAnswer, finish, finishedBlob, finishBlob, FinishOutcome}
@@ -85,19 +85,19 @@ own-end {w} {blob} {handle} p e =
     own-splice w blob endBytes (f .blob) (omega (arith, f .room, length-end)) (p .bytes ∙ upon-done _ _ _ accepted)
 
 -- storing a name at its place changes only the bytes after the used strings
-kept-stored : (w : Record) (strings name : List ℕ) → FitStrings w strings → isFull (placeOf w strings name) ≡ false → KeptOutside (w .«strings_used») (w .«strings_used» + added (placeOf w strings name) name) strings (stored (placeOf w strings name) name strings)
-unfolding placeOf isFull added stored
-kept-stored w strings name f h = go (interned (take (w .«strings_used») strings) (w .«strings_room») name) refl h
+kept-stored : (w : Record) (strings name : List ℕ) → FitStrings w strings → KeptOutside (w .«strings_used») (w .«strings_used» + added (placeOf w strings name) name) strings (stored (placeOf w strings name) name strings)
+unfolding placeOf added stored
+kept-stored w strings name f = go (interned (take (w .«strings_used») strings) (w .«strings_room») name) refl
   where
-    go : (p : Interned) → interned (take (w .«strings_used») strings) (w .«strings_room») name ≡ p → isFull p ≡ false → KeptOutside (w .«strings_used») (w .«strings_used» + added p name) strings (stored p name strings)
-    go (place.Known offset) e h = record { kept-length = refl; kept = λ i o. refl }
-    go (place.New offset) e h =
+    go : (p : Interned) → interned (take (w .«strings_used») strings) (w .«strings_room») name ≡ p → KeptOutside (w .«strings_used») (w .«strings_used» + added p name) strings (stored p name strings)
+    go (place.Known offset) e = record { kept-length = refl; kept = λ i o. refl }
+    go (place.New offset) e =
         let s = new-placed (take (w .«strings_used») strings) name (w .«strings_room») offset e in
         let n = length-take-le (w .«strings_used») strings (omega (arith, f .used, f .within)) in
         let at : offset ≡ w .«strings_used» = sym (s .place) ∙ n in
         subst (λ (k : ℕ). KeptOutside k (k + length (entry name)) strings (splice offset (entry name) strings)) at
         (kept-splice offset (entry name) strings (omega (arith, s .fits, f .within)))
-    go place.StringRoom e h = absurd (true≢false h)
+    go place.StringRoom e = record { kept-length = refl; kept = λ i o. refl }
 
 -- every kind of property call: its bytes from the used length on, and a new name after the used strings
 pub own-property : {w : Record} {blob strings name : List ℕ} {v : Value} {r : Outcome} {a b : List ℕ} → PropertyOutcome w blob strings name v r a b → r .answer ≡ Done →
@@ -105,15 +105,14 @@ pub own-property : {w : Record} {blob strings name : List ℕ} {v : Value} {r : 
     × KeptOutside (w .«strings_used») (w .«strings_used» + added (placeOf w strings name) name) strings b × (w .«strings_used» + added (placeOf w strings name) name ≤ usable stringsCeiling (length strings))
 unfolding property propertyBlob propertyStrings written
 own-property {w} {blob} {strings} {name} {v} p e =
-    let accepted : propertyAnswer w (length blob) strings name v ≡ Done = ap (λ (o : Outcome). o .answer) (sym (p .result)) ∙ e in
-    let f = property-fits w (length blob) strings name v accepted in
-    let n = length-property (placeOffset (placeOf w strings name)) (valueBytes v) in
-    let own = own-splice w blob (written w strings name v) (f .blob) (omega (arith, f .room, n)) (p .bytes ∙ upon-done _ _ _ accepted) in (
+    let accepted : propertyAnswer w blob strings name v ≡ Done = ap (λ (o : Outcome). o .answer) (sym (p .result)) ∙ e in
+    let f = property-fits w blob strings name v accepted in
+    let own = own-splice w blob (written w strings name v) (f .blob-fits) (f .room) (p .bytes ∙ upon-done _ _ _ accepted) in (
       own .0,
       own .1,
       subst (KeptOutside (w .«strings_used») (w .«strings_used» + added (placeOf w strings name) name) strings) (sym (p .names ∙ upon-done _ _ _ accepted))
-          (kept-stored w strings name (f .names) (f .placed)),
-      omega (arith, f .names .room, settled w strings name (f .names) (f .placed) .used),
+          (kept-stored w strings name (f .names)),
+      omega (arith, f .names .room, settled w strings name (f .names) .used),
     )
 
 -- finish: the header, and word 9 with the strings from the used length on

@@ -28,13 +28,13 @@ use Rattle.fdt_record.proofs.Answers.{accepts-done, upon-same}
 use Rattle.fdt_record.proofs.FirstTests.{strings-refusals}
 use Rattle.fdt_record.proofs.Fits.{fit-blob, FitStrings, fit-strings, fit-phandles}
 use Rattle.fdt_record.proofs.Rows.{NoneHolds, Refusals, exactly, refusals-more, append-same}
-use Rattle.fdt_properties.specs.Property.{placeOf, placeOffset, stored, written, stateRows, nameRows, propertyRows, propertyAnswer, propertyRecord, property, propertyBlob, propertyStrings}
-use Rattle.fdt_properties.proofs.Property.{state-refusals, PropertyFits, property-fits}
-use Rattle.fdt_properties.proofs.Steps.{state-fits}
+use Rattle.fdt_properties.specs.Property.{placeOf, placeOffset, stored, written, stateRows, nameRows, roomRows, propertyRows, propertyAnswer, propertyRecord, property, propertyBlob, propertyStrings}
+use Rattle.fdt_properties.proofs.Property.{first-refusals, PropertyFits, property-fits}
+use Rattle.fdt_properties.proofs.Steps.{first-fits}
 use Rattle.fdt_header.specs.Header.{headerSize, headerBytes}
 use Rattle.fdt_format.specs.Tokens.{beginBytes, propertyBytes, endBytes, finalBytes}
 use Rattle.fdt_header.proofs.HeaderBytes.{length-header}
-use Rattle.fdt_format.proofs.Tokens.{length-property, length-end, length-final}
+use Rattle.fdt_format.proofs.Tokens.{length-end, length-final}
 use Rattle.fdt_opening.specs.Opening.{openingRows, openingAnswer, openedRecord, openingBytes, opening, openingBlob}
 use Rattle.fdt_opening.proofs.Opening.{opened-fits, length-openingBytes}
 use Rattle.fdt_nodes.specs.Begin.{beginRows, beginAnswer, begin, beginBlob}
@@ -128,34 +128,34 @@ module _ (xs ys : List ℕ) (same : SameUsable blobCeiling xs ys) where
     )
 
     module _ (w : Record) (name : List ℕ) (v : Value) where
-      state-answer : (lent : ℕ) (strings : List ℕ) → Answer
-      state-answer lent strings = first (stateRows w lent strings (misfitValue v) (zeroValue v))
+      first-rows : (lent : ℕ) (strings : List ℕ) → List Row
+      first-rows lent strings = stateRows w lent strings (misfitValue v) (zeroValue v) ++ nameRows name
 
-      same-state : state-answer (length xs) ss ≡ state-answer (length ys) ts
-      unfolding stateRows stringsRows blobRows state-answer
+      same-state : first (first-rows (length xs) ss) ≡ first (first-rows (length ys) ts)
+      unfolding stateRows stringsRows blobRows first-rows
       same-state = simp (same-misfit-blob w xs ys same, same-misfit-strings w ss ts alike)
 
       same-place : FitStrings w ss → placeOf w ss name ≡ placeOf w ts name
       unfolding placeOf
       same-place f = ap (λ (s : List ℕ). interned s (w .«strings_room») name) (same-used w f)
 
-      same-names : FitStrings w ss → first (nameRows w ss name (length (valueBytes v))) ≡ first (nameRows w ts name (length (valueBytes v)))
-      unfolding nameRows
-      same-names f = simp (same-place f)
+      same-rooms : FitStrings w ss → first (roomRows w ss name v) ≡ first (roomRows w ts name v)
+      unfolding roomRows propertyRecord written
+      same-rooms f = simp (same-place f)
 
-      same-property : propertyAnswer w (length xs) ss name v ≡ propertyAnswer w (length ys) ts name v
-      unfolding propertyAnswer propertyRows state-answer
+      same-property : propertyAnswer w xs ss name v ≡ propertyAnswer w ys ts name v
+      unfolding propertyAnswer propertyRows first-rows
       same-property =
-          append-same (stateRows w (length xs) ss (misfitValue v) (zeroValue v)) (stateRows w (length ys) ts (misfitValue v) (zeroValue v)) (nameRows w ss name (length (valueBytes v))) (nameRows w ts name (length (valueBytes v)))
-          (state-refusals w (length xs) ss (misfitValue v) (zeroValue v)) (state-refusals w (length ys) ts (misfitValue v) (zeroValue v)) same-state
-          (λ e. same-names (state-fits w (length xs) ss v refl refl refl e .names))
+          append-same (first-rows (length xs) ss) (first-rows (length ys) ts) (roomRows w ss name v) (roomRows w ts name v)
+          (first-refusals w (length xs) ss name (misfitValue v) (zeroValue v)) (first-refusals w (length ys) ts name (misfitValue v) (zeroValue v)) same-state
+          (λ e. same-rooms (first-fits w xs ss name (record { misfit = misfitValue v; zero = zeroValue v; len = 0 }) refl e .names))
 
       -- equal if the call is accepted, so equal
-      accepted-same : {A : Type 0} (x x′ y : A) → (accepts (propertyAnswer w (length xs) ss name v) ≡ true → x ≡ x′) → upon (propertyAnswer w (length xs) ss name v) x y ≡ upon (propertyAnswer w (length ys) ts name v) x′ y
-      accepted-same {A} x x′ y f = upon-same (propertyAnswer w (length xs) ss name v) x x′ y f ∙ ap (λ (a : Answer). upon a x′ y) same-property
+      accepted-same : {A : Type 0} (x x′ y : A) → (accepts (propertyAnswer w xs ss name v) ≡ true → x ≡ x′) → upon (propertyAnswer w xs ss name v) x y ≡ upon (propertyAnswer w ys ts name v) x′ y
+      accepted-same {A} x x′ y f = upon-same (propertyAnswer w xs ss name v) x x′ y f ∙ ap (λ (a : Answer). upon a x′ y) same-property
 
-      fits : accepts (propertyAnswer w (length xs) ss name v) ≡ true → PropertyFits w (length xs) ss name v
-      fits e = property-fits w (length xs) ss name v (accepts-done (propertyAnswer w (length xs) ss name v) e)
+      fits : accepts (propertyAnswer w xs ss name v) ≡ true → PropertyFits w xs ss name v
+      fits e = property-fits w xs ss name v (accepts-done (propertyAnswer w xs ss name v) e)
 
       -- a new name goes within the usable strings
       within : FitStrings w ss → (p : Interned) → placeOf w ss name ≡ p → SameUsable stringsCeiling (stored p name ss) (stored p name ts)
@@ -167,20 +167,19 @@ module _ (xs ys : List ℕ) (same : SameUsable blobCeiling xs ys) where
       within f place.StringRoom e = alike
 
       pub usable-property :
-          (property w (length xs) ss name v ≡ property w (length ys) ts name v)
+          (property w xs ss name v ≡ property w ys ts name v)
           × SameUsable blobCeiling (propertyBlob w xs ss name v) (propertyBlob w ys ts name v)
-          × SameUsable stringsCeiling (propertyStrings w (length xs) ss name v) (propertyStrings w (length ys) ts name v)
+          × SameUsable stringsCeiling (propertyStrings w xs ss name v) (propertyStrings w ys ts name v)
       unfolding property propertyBlob propertyStrings propertyRecord written
       usable-property = (
-        ap (λ (r : Record). record { answer = propertyAnswer w (length xs) ss name v; after = r })
+        ap (λ (r : Record). record { answer = propertyAnswer w xs ss name v; after = r })
             (accepted-same (propertyRecord w ss name v) (propertyRecord w ts name v) w (λ e. simp (same-place (fits e .names))))
-            ∙ ap (λ (a : Answer). record { answer = a; after = upon (propertyAnswer w (length ys) ts name v) (propertyRecord w ts name v) w }) same-property,
+            ∙ ap (λ (a : Answer). record { answer = a; after = upon (propertyAnswer w ys ts name v) (propertyRecord w ts name v) w }) same-property,
         same-upon blobCeiling same-property xs ys _ _ same
             (λ e.
             let f = fits e in
-            let n = length-property (placeOffset (placeOf w ss name)) (valueBytes v) in
             subst (λ (p : Interned). SameUsable blobCeiling (splice (w .«blob_used») (propertyBytes (placeOffset (placeOf w ss name)) (valueBytes v)) xs) (splice (w .«blob_used») (propertyBytes (placeOffset p) (valueBytes v)) ys)) (same-place (f .names))
-            (same-splice blobCeiling (w .«blob_used») (propertyBytes (placeOffset (placeOf w ss name)) (valueBytes v)) xs ys same (omega (arith, n, f .blob .room, f .room)))),
+            (same-splice blobCeiling (w .«blob_used») (propertyBytes (placeOffset (placeOf w ss name)) (valueBytes v)) xs ys same (omega (arith, f .blob-fits .room, f .room)))),
         same-upon stringsCeiling same-property ss ts _ _ alike
             (λ e.
             let f = fits e in
@@ -232,9 +231,9 @@ module _ (xs ys : List ℕ) (same : SameUsable blobCeiling xs ys) where
           (refusals (length xs) ss ps) (refusals (length ys) ts qs) same-first (λ e. same-table (phandles-fit e))
 
       pub usable-phandle :
-          (phandle w (length xs) ss ps value ≡ phandle w (length ys) ts qs value)
+          (phandle w xs ss ps value ≡ phandle w ys ts qs value)
           × SameUsable blobCeiling (phandleBlob w xs ss ps value) (phandleBlob w ys ts qs value)
-          × SameUsable stringsCeiling (phandleStrings w (length xs) ss ps value) (phandleStrings w (length ys) ts qs value)
+          × SameUsable stringsCeiling (phandleStrings w xs ss ps value) (phandleStrings w ys ts qs value)
           × SameUsable phandlesCeiling (phandleTable w (length xs) ss ps value) (phandleTable w (length ys) ts qs value)
       unfolding phandle phandleBlob phandleStrings phandleTable
       usable-phandle =

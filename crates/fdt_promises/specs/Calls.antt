@@ -111,8 +111,8 @@ answer (to-open numbers) s = of-opening.openingAnswer (length (s .blob)) (length
 answer (to-boot n) s = of-boot.bootAnswer (s .writer)
 answer (to-begin name) s = of-begin.beginAnswer (s .writer) (length (s .blob)) name
 answer (to-end handle) s = of-end.endAnswer (s .writer) (length (s .blob)) handle
-answer (to-have name v) s = of-property.propertyAnswer (s .writer) (length (s .blob)) (s .strings) name v
-answer (to-mark value) s = of-phandle.phandle (s .writer) (length (s .blob)) (s .strings) (s .phandles) value .answer
+answer (to-have name v) s = of-property.propertyAnswer (s .writer) (s .blob) (s .strings) name v
+answer (to-mark value) s = of-phandle.phandle (s .writer) (s .blob) (s .strings) (s .phandles) value .answer
 answer to-finish s = of-finish.finishAnswer (s .writer) (length (s .blob)) (s .strings)
 answer to-show s = Done
 
@@ -127,13 +127,13 @@ after (to-begin name) s =
 after (to-end handle) s =
     withWriter (of-end.end (s .writer) (s .blob) handle .after) (withBlob (of-end.endBlob (s .writer) (s .blob) handle) s)
 after (to-have name v) s =
-    withWriter (of-property.property (s .writer) (length (s .blob)) (s .strings) name v .after)
+    withWriter (of-property.property (s .writer) (s .blob) (s .strings) name v .after)
     (withBlob (of-property.propertyBlob (s .writer) (s .blob) (s .strings) name v)
-    (withStrings (of-property.propertyStrings (s .writer) (length (s .blob)) (s .strings) name v) s))
+    (withStrings (of-property.propertyStrings (s .writer) (s .blob) (s .strings) name v) s))
 after (to-mark value) s =
-    withWriter (of-phandle.phandle (s .writer) (length (s .blob)) (s .strings) (s .phandles) value .after)
+    withWriter (of-phandle.phandle (s .writer) (s .blob) (s .strings) (s .phandles) value .after)
     (withBlob (of-phandle.phandleBlob (s .writer) (s .blob) (s .strings) (s .phandles) value)
-    (withStrings (of-phandle.phandleStrings (s .writer) (length (s .blob)) (s .strings) (s .phandles) value)
+    (withStrings (of-phandle.phandleStrings (s .writer) (s .blob) (s .strings) (s .phandles) value)
     (withPhandles (of-phandle.phandleTable (s .writer) (length (s .blob)) (s .strings) (s .phandles) value) s)))
 after to-finish s =
     withWriter (of-finish.finish (s .writer) (length (s .blob)) (s .strings) .after)

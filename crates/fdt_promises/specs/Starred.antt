@@ -45,7 +45,7 @@ beginGives depth name = numberOf (begin (withDepth depth fresh) (dirty 256) name
 
 -- the number that property answers for a name, in a node with an empty name
 unfoldable pub propertyIn : List ℕ → ℕ
-propertyIn name = numberOf (property (begunRecord fresh []) 256 (dirty 64) name (raw []) .answer)
+propertyIn name = numberOf (property (begunRecord fresh []) (dirty 256) (dirty 64) name (raw []) .answer)
 
 -- the number that opening answers for reservations, address and size in turn
 unfoldable pub openWith : List ℕ → ℕ
