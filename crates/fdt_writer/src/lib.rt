@@ -1,4 +1,4 @@
-// The devicetree writer: a record by value, with methods that hand it back beside their answer.
+// The devicetree writer: each method takes the writer and returns an answer with the new writer.
 ghost use mathlib.Core.Path.{_≡_};
 ghost use mathlib.Core.List.{[], _∷_};
 ghost use lib.ListN.{length};
@@ -18,24 +18,24 @@ use fdt_record::Answer;
 use fdt_record::Outcome;
 use fdt_record::Record;
 
-// A writer: what it knows of its buffers and of the calls so far.
+// A writer: the record of its buffers and of the calls so far. The buffers are lent to each call.
 #[repr(C)]
 pub struct FdtWriter(pub Record);
 
-// What a call answers, beside the new writer.
+// The answer of a call, and the new writer.
 pub struct Answered {
     pub answer: Answer,
     pub writer: FdtWriter,
 }
 
-// What beginning a node answers, with the node's handle, beside the new writer.
+// The answer of beginning a node, the node's handle, and the new writer.
 pub struct NodeAnswered {
     pub answer: Answer,
     pub handle: FdtWriterNode,
     pub writer: FdtWriter,
 }
 
-// What a call on the record tells, with the record as a writer.
+// The outcome of a call on the record, with the record as a writer.
 fn wrapped(o: Outcome) -> Answered
     ensures { λ r. ⌜ told r ≡ o ⌝ }
 {
@@ -47,7 +47,7 @@ fn wrapped(o: Outcome) -> Answered
     }
 }
 
-// The same of beginning a node.
+// The same for beginning a node.
 fn wrapped_node(o: Begun) -> NodeAnswered
     ensures { λ r. ⌜ begun r ≡ o ⌝ }
 {
@@ -62,14 +62,16 @@ fn wrapped_node(o: Begun) -> NodeAnswered
 }
 
 impl FdtWriter {
-    // Opens a writer over a blob, a string buffer and a table of phandles.
+    // Opens a writer over a blob buffer, a string buffer and a table of phandles, with no memory reservations.
+    // Refused 14 only. A refused opening returns a closed writer, which every call but `show` refuses.
     pub fn new(blob: &mut [u8], strings: &[u8], phandles: &[u32]) -> Answered
         ensures { λ r. ⌜ OpeningOutcome (now (blob .entry)) (length (now (strings .entry))) (length (now (phandles .entry))) [] (told r) (now (blob .exit)) ⌝ }
     {
         FdtWriter::new_with_mem_reserv(blob, strings, phandles, &[])
     }
 
-    // Opens a writer with reservations, given as address and size in turn.
+    // Opens a writer with memory reservations, given as address, size, address, size and so on.
+    // Refused 17, 19, 8, 9, 14, in this order.
     pub fn new_with_mem_reserv(
         blob: &mut [u8],
         strings: &[u8],
@@ -81,44 +83,48 @@ impl FdtWriter {
         wrapped(fdt_opening::open(blob, strings, phandles, mem_reservations))
     }
 
-    // Sets the boot processor's number.
+    // Sets the boot processor's number in the header.
+    // Refused 18, 17, in this order.
     pub fn set_boot_cpuid_phys(self, boot_cpuid_phys: u32) -> Answered
         ensures { λ r. ⌜ told r ≡ boot (self .0) «boot_cpuid_phys» ⌝ }
     {
         wrapped(fdt_finish::set_boot_cpuid_phys(self.0, boot_cpuid_phys))
     }
 
-    // Begins a node.
+    // Begins a node inside the open one, and returns its handle.
+    // Refused 18, 17, 12, 5, 10, 14, in this order.
     pub fn begin_node(self, blob: &mut [u8], name: &[u8]) -> NodeAnswered
         ensures { λ r. ⌜ BeginOutcome (self .0) (now (blob .entry)) (now (name .entry)) (begun r) (now (blob .exit)) ⌝ }
     {
         wrapped_node(fdt_nodes::begin_node(self.0, blob, name))
     }
 
-    // Ends the node that was begun last.
+    // Ends the open node, whose handle must be given.
+    // Refused 18, 17, 6, 14, in this order.
     pub fn end_node(self, blob: &mut [u8], node: FdtWriterNode) -> Answered
         ensures { λ r. ⌜ EndOutcome (self .0) (now (blob .entry)) (node .0) (told r) (now (blob .exit)) ⌝ }
     {
         wrapped(fdt_nodes::end_node(self.0, blob, node))
     }
 
-    // Writes a property of bytes.
+    // Writes a property of the open node: a name and the bytes of its value.
+    // Refused 18, 17, 2, 1, 5, 11, 15, 14, in this order.
     pub fn property(self, blob: &mut [u8], strings: &mut [u8], name: &[u8], val: &[u8]) -> Answered
         ensures { λ r. ⌜ PropertyOutcome (self .0) (now (blob .entry)) (now (strings .entry)) (now (name .entry)) (raw (now (val .entry))) (told r) (now (blob .exit)) (now (strings .exit)) ⌝ }
     {
-        wrapped(fdt_properties::write_bytes(
-            self.0, blob, strings, name, val,
-        ))
+        wrapped(fdt_properties::write_bytes(self.0, blob, strings, name, val))
     }
 
-    // Writes an empty property.
+    // Writes a property with an empty value.
+    // Refused 18, 17, 2, 1, 5, 11, 15, 14, in this order.
     pub fn property_null(self, blob: &mut [u8], strings: &mut [u8], name: &[u8]) -> Answered
         ensures { λ r. ⌜ PropertyOutcome (self .0) (now (blob .entry)) (now (strings .entry)) (now (name .entry)) (raw []) (told r) (now (blob .exit)) (now (strings .exit)) ⌝ }
     {
         self.property(blob, strings, name, &[])
     }
 
-    // Writes a property of one string.
+    // Writes a property whose value is one string and a 0.
+    // Refused 18, 17, 5 for a string, 2, 1, 5 for the name, 11, 15, 14, in this order.
     pub fn property_string(
         self,
         blob: &mut [u8],
@@ -131,7 +137,8 @@ impl FdtWriter {
         self.property_string_list(blob, strings, name, val, &[val.len()])
     }
 
-    // Writes a property of strings, given as their joined bytes and their lengths.
+    // Writes a property whose value is a list of strings, each with a 0. They are given as their joined bytes and their lengths.
+    // Refused 18, 17, 5 for a string, 2, 1, 5 for the name, 11, 15, 14, in this order.
     pub fn property_string_list(
         self,
         blob: &mut [u8],
@@ -142,12 +149,11 @@ impl FdtWriter {
     ) -> Answered
         ensures { λ r. ⌜ PropertyOutcome (self .0) (now (blob .entry)) (now (strings .entry)) (now (name .entry)) (texts (now (values .entry)) (now (lengths .entry))) (told r) (now (blob .exit)) (now (strings .exit)) ⌝ }
     {
-        wrapped(fdt_properties::write_texts(
-            self.0, blob, strings, name, values, lengths,
-        ))
+        wrapped(fdt_properties::write_texts(self.0, blob, strings, name, values, lengths))
     }
 
-    // Writes a property of one number of 4 bytes.
+    // Writes a property whose value is one number of 4 bytes.
+    // Refused 18, 17, 2, 1, 5, 11, 15, 14, in this order.
     pub fn property_u32(
         self,
         blob: &mut [u8],
@@ -160,7 +166,8 @@ impl FdtWriter {
         self.property_array_u32(blob, strings, name, &[val])
     }
 
-    // Writes a property of one number of 8 bytes.
+    // Writes a property whose value is one number of 8 bytes.
+    // Refused 18, 17, 2, 1, 5, 11, 15, 14, in this order.
     pub fn property_u64(
         self,
         blob: &mut [u8],
@@ -173,7 +180,8 @@ impl FdtWriter {
         self.property_array_u64(blob, strings, name, &[val])
     }
 
-    // Writes a property of numbers of 4 bytes.
+    // Writes a property whose value is a list of numbers of 4 bytes each.
+    // Refused 18, 17, 2, 1, 5, 11, 15, 14, in this order.
     pub fn property_array_u32(
         self,
         blob: &mut [u8],
@@ -183,12 +191,11 @@ impl FdtWriter {
     ) -> Answered
         ensures { λ r. ⌜ PropertyOutcome (self .0) (now (blob .entry)) (now (strings .entry)) (now (name .entry)) (cells 4 (now (numbers .entry))) (told r) (now (blob .exit)) (now (strings .exit)) ⌝ }
     {
-        wrapped(fdt_properties::write_cells(
-            self.0, blob, strings, name, numbers,
-        ))
+        wrapped(fdt_properties::write_cells(self.0, blob, strings, name, numbers))
     }
 
-    // Writes a property of numbers of 8 bytes.
+    // Writes a property whose value is a list of numbers of 8 bytes each.
+    // Refused 18, 17, 2, 1, 5, 11, 15, 14, in this order.
     pub fn property_array_u64(
         self,
         blob: &mut [u8],
@@ -198,12 +205,11 @@ impl FdtWriter {
     ) -> Answered
         ensures { λ r. ⌜ PropertyOutcome (self .0) (now (blob .entry)) (now (strings .entry)) (now (name .entry)) (cells 8 (now (numbers .entry))) (told r) (now (blob .exit)) (now (strings .exit)) ⌝ }
     {
-        wrapped(fdt_properties::write_wide_cells(
-            self.0, blob, strings, name, numbers,
-        ))
+        wrapped(fdt_properties::write_wide_cells(self.0, blob, strings, name, numbers))
     }
 
-    // Records a phandle and writes its property; the value is recorded even if the property is then refused.
+    // Records a phandle in the table and writes the property `phandle`. Once 13 and 16 are passed the value stays recorded, even if the property is refused.
+    // Refused 18, 17, 13, 16, 2, 1, 15, 14, in this order.
     pub fn property_phandle(
         self,
         blob: &mut [u8],
@@ -216,14 +222,16 @@ impl FdtWriter {
         wrapped(fdt_phandles::property_phandle(self.0, blob, strings, phandles, val))
     }
 
-    // Finishes the blob: the header, the last word and the strings.
+    // Finishes the blob: writes the last word, the strings and the header.
+    // Refused 18, 17, 7, 14, in this order.
     pub fn finish(self, blob: &mut [u8], strings: &[u8]) -> Answered
         ensures { λ r. ⌜ FinishOutcome (self .0) (now (blob .entry)) (now (strings .entry)) (told r) (now (blob .exit)) ⌝ }
     {
         wrapped(fdt_finish::finish(self.0, blob, strings))
     }
 
-    // Shows the finished blob: the front of what is lent, or an empty part.
+    // Shows the finished blob, which is the front of the lent buffer. Of a writer that is not finished, or does not fit the buffer, it shows an empty part.
+    // Never refused.
     pub fn show(self, blob: &[u8]) -> &[u8]
         ensures { λ r. ⌜ now r ≡ shown (self .0) (now (blob .entry)) ⌝ }
     {
