@@ -82,7 +82,7 @@ module _ (used offset len end : ℕ) (value blob : List ℕ) (sized : len ≡ le
 
 module _ {w : Record} {blob strings name : List ℕ} {m : Measured} {r : Tested} (tests : Tests w blob strings name m r) where
   -- refused: nothing is altered
-  pub nothing-placed : accepts (r .answer) ≡ false → (v : Value) → Measures m v → Placeholder w blob strings name v (record { answer = r .answer; after = w; at = 0 }) blob strings
+  pub nothing-placed : accepts (r .answer) ≡ false → (v : Value) → Measures m v → Placeholder w blob strings name v (record { outcome = record { answer = r .answer; after = w }; at = 0 }) blob strings
   unfolding property propertyStrings
   nothing-placed t v k =
       let told = tests .answered v k in
@@ -94,7 +94,7 @@ module _ {w : Record} {blob strings name : List ℕ} {m : Measured} {r : Tested}
       }
 
   -- accepted: only the value is left to be written
-  pub placed : accepts (r .answer) ≡ true → {s b : List ℕ} → s ≡ storedAt (r .offset) (r .added) name strings → b ≡ framed (w .«blob_used») (r .offset) (m .len) (r .after .«blob_used») blob → (v : Value) → Measures m v → Placeholder w blob strings name v (record { answer = r .answer; after = r .after; at = w .«blob_used» + 12 }) b s
+  pub placed : accepts (r .answer) ≡ true → {s b : List ℕ} → s ≡ storedAt (r .offset) (r .added) name strings → b ≡ framed (w .«blob_used») (r .offset) (m .len) (r .after .«blob_used») blob → (v : Value) → Measures m v → Placeholder w blob strings name v (record { outcome = record { answer = r .answer; after = r .after }; at = w .«blob_used» + 12 }) b s
   unfolding property propertyStrings written
   placed t {s} {b} es eb v k =
       let told = tests .answered v k in
@@ -122,7 +122,7 @@ module _ {w : Record} {blob strings name : List ℕ} {m : Measured} {r : Tested}
 
 module _ {w : Record} {blob strings name : List ℕ} {v : Value} {r : Placed} {b s : List ℕ} (p : Placeholder w blob strings name v r b s) where
   -- what a placeholder leaves that was refused
-  pub left-unfilled : accepts (r .answer) ≡ false → PropertyOutcome w blob strings name v (record { answer = r .answer; after = r .after }) b s
+  pub left-unfilled : accepts (r .outcome .answer) ≡ false → PropertyOutcome w blob strings name v (r .outcome) b s
   unfolding property propertyBlob
   left-unfilled t =
       record {
@@ -132,7 +132,7 @@ module _ {w : Record} {blob strings name : List ℕ} {v : Value} {r : Placed} {b
       }
 
   -- and one that is filled with the value
-  pub filled-with : accepts (r .answer) ≡ true → {b′ : List ℕ} → b′ ≡ splice (r .at) (valueBytes v) b → PropertyOutcome w blob strings name v (record { answer = r .answer; after = r .after }) b′ s
+  pub filled-with : accepts (r .outcome .answer) ≡ true → {b′ : List ℕ} → b′ ≡ splice (r .at) (valueBytes v) b → PropertyOutcome w blob strings name v (r .outcome) b′ s
   unfolding property propertyBlob
   filled-with t {b′} e =
       record {

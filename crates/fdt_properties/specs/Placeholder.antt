@@ -12,7 +12,6 @@ use Rattle.fdt_strings.specs.declared.Interned.{Interned}
 use Rattle.fdt_strings.specs.Entries.{entry}
 use Rattle.fdt_format.specs.Tokens.{propertyToken}
 use Rattle.fdt_values.specs.Value.{Value, valueBytes, misfitValue, zeroValue}
-use Rattle.fdt_record.specs.declared.Outcome.{Outcome}
 use Rattle.fdt_record.specs.declared.Record.{Record}
 use Rattle.fdt_record.specs.Answers.{accepts}
 use Rattle.fdt_properties.specs.declared.Measured.{Measured}
@@ -75,7 +74,7 @@ pub record Unfilled (w : Record) (blob strings name : List ℕ) (v : Value) (at 
 
 -- a property except its value
 pub record Placeholder (w : Record) (blob strings name : List ℕ) (v : Value) (r : Placed) (blobAfter stringsAfter : List ℕ) : Type 0 where
-  pub result : _≡_ {A = Outcome} (record { answer = r .answer; after = r .after }) (property w blob strings name v)
+  pub result : r .outcome ≡ property w blob strings name v
   pub names : stringsAfter ≡ propertyStrings w blob strings name v
-  pub refused : accepts (r .answer) ≡ false → blobAfter ≡ blob
-  pub accepted : accepts (r .answer) ≡ true → Unfilled w blob strings name v (r .at) blobAfter
+  pub refused : accepts (r .outcome .answer) ≡ false → blobAfter ≡ blob
+  pub accepted : accepts (r .outcome .answer) ≡ true → Unfilled w blob strings name v (r .at) blobAfter

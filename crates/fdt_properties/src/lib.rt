@@ -39,10 +39,9 @@ struct Tested {
     after: Record,
 }
 
-// The answer, the record after the call and, if it is accepted, where the value goes.
+// The outcome of the call and, if it is accepted, where its value goes.
 struct Placed {
-    answer: Answer,
-    after: Record,
+    outcome: Outcome,
     at: usize,
 }
 
@@ -194,21 +193,16 @@ fn property_placeholder(
     let tested = property_tests(w, blob, strings, name, value);
     let answer = tested.answer;
     if !fdt_record::accepted(answer) {
-        return Placed {
-            answer,
-            after: w,
-            at: 0,
-        };
+        let outcome = Outcome { answer, after: w };
+        return Placed { outcome, at: 0 };
     }
     let after = tested.after;
     let used = w.blob_used;
     store_name(strings, tested.offset, tested.added, name);
     put_frame(blob, used, tested.offset, value.len, after.blob_used);
-    Placed {
-        answer,
-        after,
-        at: used + 12,
-    }
+    let at = used + 12;
+    let outcome = Outcome { answer, after };
+    Placed { outcome, at }
 }
 
 // Writes a property of bytes.
@@ -227,13 +221,13 @@ pub fn write_bytes(
         len: val.len(),
     };
     let placed = property_placeholder(w, blob, strings, name, value);
-    let answer = placed.answer;
-    let after = placed.after;
+    let outcome = placed.outcome;
+    let answer = outcome.answer;
     if !fdt_record::accepted(answer) {
-        return Outcome { answer, after };
+        return outcome;
     }
     fdt_bytes::bytes_at(blob, placed.at, val);
-    Outcome { answer, after }
+    outcome
 }
 
 // Writes a property of numbers of 4 bytes.
@@ -252,13 +246,13 @@ pub fn write_cells(
         len: 4 * numbers.len(),
     };
     let placed = property_placeholder(w, blob, strings, name, value);
-    let answer = placed.answer;
-    let after = placed.after;
+    let outcome = placed.outcome;
+    let answer = outcome.answer;
     if !fdt_record::accepted(answer) {
-        return Outcome { answer, after };
+        return outcome;
     }
     fdt_bytes::cells_at(blob, placed.at, numbers);
-    Outcome { answer, after }
+    outcome
 }
 
 // Writes a property of numbers of 8 bytes.
@@ -277,13 +271,13 @@ pub fn write_wide_cells(
         len: 8 * numbers.len(),
     };
     let placed = property_placeholder(w, blob, strings, name, value);
-    let answer = placed.answer;
-    let after = placed.after;
+    let outcome = placed.outcome;
+    let answer = outcome.answer;
     if !fdt_record::accepted(answer) {
-        return Outcome { answer, after };
+        return outcome;
     }
     fdt_bytes::wide_cells_at(blob, placed.at, numbers);
-    Outcome { answer, after }
+    outcome
 }
 
 // Writes a property of strings, given as their joined bytes and their lengths.
@@ -303,11 +297,11 @@ pub fn write_texts(
         len: joined.len() + lengths.len(),
     };
     let placed = property_placeholder(w, blob, strings, name, value);
-    let answer = placed.answer;
-    let after = placed.after;
+    let outcome = placed.outcome;
+    let answer = outcome.answer;
     if !fdt_record::accepted(answer) {
-        return Outcome { answer, after };
+        return outcome;
     }
     fdt_values::texts_at(blob, placed.at, joined, lengths);
-    Outcome { answer, after }
+    outcome
 }

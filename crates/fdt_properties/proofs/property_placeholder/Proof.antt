@@ -29,8 +29,8 @@ store-name-requires c κs = let p = c .before .before in p .before .before .prop
 put-frame-requires : tie.Need-put-frame-requires
 put-frame-requires c κs = let p = worded c in p .before .before .property-tests .ensures .passed (went p) .frame-fits
 
-add-t21 : tie.Need-add-t21
-add-t21 c =
+add-at : tie.Need-add-at
+add-at c =
     let p = worded (c .before .before .before) in
     let f = p .before .before .property-tests .ensures .passed (went p) .frame-fits in omega (arith, f .ends, f .within)
 
@@ -45,6 +45,6 @@ property-placeholder-spec =
     tie.close
     (tie.spec
     (λ c κs. search needs) (λ c κs. search needs) (λ c. search needs) (λ c. search needs)
-    returns store-name-requires put-frame-requires add-t21
+    returns store-name-requires put-frame-requires add-at
     (λ c. search needs) (λ c. search needs)
     returns-2)

@@ -31,7 +31,7 @@ measures : (c : tie.After-property-placeholder) → let a = begun c .args in Mea
 measures c = of-texts (begun c .args .joined .now) (begun c .args .lengths .now) (asked c .before .sums-to .ensures) (asked c .has-zero .ensures)
 
 -- the tests were passed
-went : (c : tie.Else1) → accepts (called (c .before) .property-placeholder .result .answer) ≡ true
+went : (c : tie.Else1) → accepts (called (c .before) .property-placeholder .result .outcome .answer) ≡ true
 went c = sym (c .before .accepted .ensures) ∙ not-false _ (c .if1 .left)
 
 returns : tie.Need-returns
