@@ -21,7 +21,7 @@ pub data NoZero : List ℕ → Type 0 where
   no-byte : NoZero []
   next-byte : {b : ℕ} {s : List ℕ} → 0 < b → NoZero s → NoZero (b ∷ s)
 
--- a byte in front of the first entry; if no 0 follows there is none
+-- a byte put in front of the first entry; if there is none, the byte is in no entry
 unfoldable pub withByte : ℕ → List (List ℕ) → List (List ℕ)
 withByte b [] = []
 withByte b (e ∷ es) = (b ∷ e) ∷ es

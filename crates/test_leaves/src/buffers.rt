@@ -1,4 +1,4 @@
-// Writing into a buffer: `CALL ..|BUFFER VALUE`. The answer is the buffer after the call.
+// Writing into a buffer, `CALL ..|BUFFER VALUE`: the answer is the buffer after the call.
 use text_lines::numbers;
 use text_lines::said;
 use text_lines::said::Style;

@@ -1,14 +1,14 @@
-// A case is a line: what is asked, which is written again before the answer, and after a bar what else the leaf is given.
+// A case is a line: the words that are written again before the answer, and after a bar what else the leaf is given.
 use crate::buffers;
 use crate::strings;
 use crate::tests;
 use text_lines::said::text;
 
-// The first words of cases; the last kind is `align`.
+// The first words of cases, from kind 0 on. A word that is not listed is taken for `align`.
 const KINDS: [u8; 99] =
     *b"node property zero reservation overlap find ask store append_bytes append_u32 append_u64 update_u32";
 
-// Writes a case and its answer, by the word that it begins with.
+// Writes a case and its answer. The first word says which leaf is called.
 fn answered(asked: &[u8], given: &[u8]) {
     text(asked);
     text(b": ");
@@ -24,7 +24,7 @@ fn answered(asked: &[u8], given: &[u8]) {
     text(b"\n");
 }
 
-// Writes the case of a line.
+// Writes the case on a line.
 fn case(line: &[u8]) {
     let bar = text_words::next(line, 0, b'|');
     answered(text_words::piece(line, 0, b'|'), &line[bar..]);

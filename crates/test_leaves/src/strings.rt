@@ -5,7 +5,7 @@ use text_lines::numbers;
 use text_lines::said;
 use text_lines::spelling;
 
-// Writes a place.
+// Writes an offset.
 fn told(what: &[u8], offset: usize) {
     said::text(what);
     said::number(offset as u64);

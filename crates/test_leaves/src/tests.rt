@@ -1,4 +1,4 @@
-// Tests: 0 where one is passed, otherwise the number of the refusal.
+// Tests of names and reservations: 0 if passed, otherwise the number of the refusal.
 use fdt_reserve::FdtReserveEntry;
 use fdt_reserve::Reserved;
 use text_lines::said;
@@ -8,7 +8,7 @@ fn told(passed: bool, refusal: u64) {
     said::number(if passed { 0 } else { refusal });
 }
 
-// A name: of a node, of a property, or any that must have no byte 0.
+// Tests a name: of a node, of a property, or any name for a byte 0.
 fn tested(kind: usize, name: &[u8]) {
     match kind {
         0 => told(fdt_names::node_name_valid(name), 10),
@@ -17,14 +17,14 @@ fn tested(kind: usize, name: &[u8]) {
     }
 }
 
-// The name that is word 1.
+// `node NAME`, `property NAME`, `zero NAME`.
 pub fn name(kind: usize, asked: &[u8]) {
     let mut name = io::buffer();
     let n = text_lines::spelling::word(asked, 1, &mut name);
     tested(kind, &name[..n]);
 }
 
-// One reservation, which must keep its address and size.
+// Makes one reservation. 99 if it has another address or size.
 fn reserved(address: u64, size: u64) {
     if let Reserved::Entry(e) = FdtReserveEntry::new(address, size) {
         told(e.address == address && e.size == size, 99);
@@ -33,7 +33,7 @@ fn reserved(address: u64, size: u64) {
     }
 }
 
-// The numbers from word 1 on: one reservation, or whether several overlap.
+// `reservation ADDRESS SIZE`, and `overlap` with any list of numbers.
 pub fn reservations(kind: usize, asked: &[u8]) {
     let mut list = [0; 8];
     let n = text_lines::numbers::numbers(asked, 1, &mut list);

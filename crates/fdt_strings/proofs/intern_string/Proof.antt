@@ -11,7 +11,8 @@ use Rattle.fdt_strings.proofs.intern_string.Tie as tie
 -- the name was looked for and is not there
 absent :
     (c : tie.After-enum-told) →
-    let asked = c .before .before .before .before .before .args in
+    let looked = c .before .before in
+    let asked = looked .before .before .before .args in
     findString (asked .used .now) (asked .name .now) ≡ Nothing
 absent c = sym (c .before .before .find-string .ensures) ∙ c .enum-told .given .1
 
