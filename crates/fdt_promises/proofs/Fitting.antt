@@ -21,7 +21,7 @@ use Rattle.fdt_record.specs.declared.Answer.the-variants.{Misfit}
 use Rattle.fdt_record.specs.declared.Outcome.{Outcome}
 use Rattle.fdt_record.specs.Answers.{numberOf, accepts}
 use Rattle.fdt_record.specs.Limits.{mostReservations}
-use Rattle.fdt_record.specs.Misfits.{misfitRecord, misfitRoom, misfitBlob, misfitStrings, misfitPhandles}
+use Rattle.fdt_record.specs.Misfits.{misfitRecord, misfitRoom, offStructure, misfitBlob, misfitStrings, misfitPhandles}
 use Rattle.fdt_record.specs.Rows.{Row, _⇒_, first}
 use Rattle.fdt_record.specs.Tests.{aloneRows, blobRows, stringsRows}
 use Rattle.fdt_record.proofs.Answers.{accepts-done, upon-refused}
@@ -70,7 +70,7 @@ module _ {numbers : List ℕ} {es : List Event} {boot : ℕ} {marks : List ℕ} 
       simp (ne-eqb used 0 (λ z. omega (arith, e, z)), eq-eqb _ _ l)
 
   pub open-fits : Fits s
-  unfolding misfitRecord misfitBlob misfitStrings misfitPhandles
+  unfolding misfitRecord misfitBlob offStructure misfitStrings misfitPhandles
   open-fits =
       let h = o .holds in
       let w = s .writer in
