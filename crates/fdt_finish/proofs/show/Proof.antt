@@ -11,14 +11,18 @@ use Rattle.fdt_finish.proofs.Shown.{shown-unfinished, shown-misfit, sho
 use Rattle.fdt_finish.proofs.show.Statement.{statement}
 use Rattle.fdt_finish.proofs.show.Tie as tie
 
+-- where the usable length was computed, seen from where all tests held
+abbrev computed : tie.Then3 → tie.After-usable-length
+computed c = c .before .before .before .before
+
 slice-aggregate-result : tie.Need-slice-aggregate-result
 slice-aggregate-result c =
-    let u = c .before .before .before .before .before in
+    let u = computed (c .before) in
     sym (length-take-le _ _ (omega (arith, u .usable-length .ensures, usable-within blobCeiling (length (u .before .before .before .args .blob .now)))))
 
 returns : tie.Need-returns
 returns c =
-    let u = c .before .before .before .before .before in
+    let u = computed (c .before) in
     sym (shown-whole _ _ (u .before .if1 .taken) (u .usable-length .ensures) (omega arith) (omega arith))
 
 returns-2 : tie.Need-returns-2

@@ -87,8 +87,9 @@ returns-4 c = sym (plain (c .before .before) ∙ hit _ _ (ap not (sym (c .before
 
 after-begin-requires : tie.Need-after-begin-requires
 after-begin-requires c κs =
-    let e = c .before .before .before .before .before .before in
-    let p = blob-passed _ _ (e .before .before .blob-tests .ensures) (passed e) in
+    let shallow-here = c .before .before .before .before in
+    let fitting = shallow-here .before .before in
+    let p = blob-passed _ _ (fitting .before .before .blob-tests .ensures) (passed fitting) in
     (omega (arith, p .blob .used, p .blob .small), p .alone .depth)
 
 returns-5 : tie.Need-returns-5

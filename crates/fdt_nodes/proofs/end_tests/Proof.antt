@@ -72,8 +72,9 @@ returns-3 c =
 
 after-end-requires : tie.Need-after-end-requires
 after-end-requires c κs =
-    let e = c .before .before .before .before .before in
-    let p = blob-passed _ _ (e .before .before .blob-tests .ensures) (passed e) in
+    let e = c .before .before in
+    let fitting = e .before .before .before in
+    let p = blob-passed _ _ (fitting .before .before .blob-tests .ensures) (passed fitting) in
     (omega (arith, p .blob .used, p .blob .small), omega arith)
 
 returns-4 : tie.Need-returns-4

@@ -26,16 +26,18 @@ loop-holds c = (search needs, refl)
 returns : tie.Need-returns Inv-loop μ-loop
 unfolding someInvalid
 returns c =
-    let l = c .before .before .before .before .before .loop in
+    let read = c .before .before .before in
+    let turn = read .before in
     sym
-    (some-at _ _ (l .i) (c .before .before .before .before .loop-test .taken)
-    (refused-invalid _ _ _ _ (c .before .before .before .entry-at .ensures) (c .before .before .new .ensures) (c .enum-told .given .1)))
+    (some-at _ _ (turn .before .loop .i) (turn .loop-test .taken)
+    (refused-invalid _ _ _ _ (read .entry-at .ensures) (c .before .before .new .ensures) (c .enum-told .given .1)))
 
 loop-again : tie.Need-loop-again Inv-loop μ-loop
 loop-again c =
-    let l = c .before .before .before .before .before .loop in (
+    let read = c .before .before .before in
+    let l = read .before .before .loop in (
       search needs,
-      some-more _ (l .i) (l .inv .1) (taken-valid _ _ _ _ (c .before .before .before .entry-at .ensures) (c .before .before .new .ensures) _ (c .enum-told2 .given .1)),
+      some-more _ (l .i) (l .inv .1) (taken-valid _ _ _ _ (read .entry-at .ensures) (c .before .before .new .ensures) _ (c .enum-told2 .given .1)),
     )
 
 returns-2 : tie.Need-returns-2 Inv-loop μ-loop

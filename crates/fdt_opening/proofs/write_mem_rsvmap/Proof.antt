@@ -6,10 +6,10 @@ use Rattle.fdt_opening.proofs.write_mem_rsvmap.Tie as tie
 
 returns : tie.Need-returns
 returns c =
-    three-writes _ _ _ _ _ (c .before .before .before .before .before .before .before .before .before .before .before .before .before .before .pre)
-    (c .before .before .before .before .before .before .before .before .before .before .zeros-at .ensures)
-    (c .before .before .before .before .before .before .wide-cells-at .ensures)
-    (c .before .before .zeros-at2 .ensures)
+    let end = c .before .before in
+    let numbers = end .before .before .before .before in
+    let header = numbers .before .before .before .before in
+    three-writes _ _ _ _ _ (header .before .before .before .before .pre) (header .zeros-at .ensures) (numbers .wide-cells-at .ensures) (end .zeros-at2 .ensures)
 
 pub write-mem-rsvmap-spec : {M : Type 1} → statement M
 write-mem-rsvmap-spec =

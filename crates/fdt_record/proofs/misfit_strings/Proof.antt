@@ -28,7 +28,10 @@ shared-slice-read-result c = let f = fit-room _ _ _ _ (fits (c .before .before))
 
 returns-3 : tie.Need-returns-3
 unfolding misfitStrings
-returns-3 c = let w = c .before .before .before .before .before .args .w in simp (fits (c .before .before), ne-eqb (w .«strings_used») 0 (c .before .if2 .left))
+returns-3 c =
+    let e = c .before .before in
+    let w = e .before .before .before .args .w in
+    simp (fits e, ne-eqb (w .«strings_used») 0 (c .before .if2 .left))
 
 pub misfit-strings-spec : {M : Type 1} → statement M
 misfit-strings-spec =
