@@ -11,7 +11,7 @@ use lib.ListN.{length, getD}
 use Rattle.fdt_header.specs.Header.{structureStart}
 use Rattle.fdt_record.specs.declared.Record.{Record}
 use Rattle.fdt_record.specs.Limits.{blobCeiling, stringsCeiling, phandlesCeiling, mostReservations, mostDepth, usable}
-use Rattle.fdt_record.specs.Misfits.{misfitRecord, misfitRoom, offStructure, misfitBlob, misfitStrings, misfitPhandles, noRoom, overfull}
+use Rattle.fdt_record.specs.Misfits.{misfitRecord, misfitRoom, offStructure, misfitBlob, misfitStrings, misfitPhandles, overfull}
 
 -- neither of two tests
 pub neither : (a b : Bool) → (a || b) ≡ false → (a ≡ false) × (b ≡ false)
@@ -110,11 +110,6 @@ FitPhandles w lent = FitRoom phandlesCeiling lent (w .«phandles_room») (w .«p
 pub fit-phandles : (w : Record) (lent : ℕ) → misfitPhandles w lent ≡ false → FitPhandles w lent
 unfolding misfitPhandles
 fit-phandles w lent = fit-room phandlesCeiling lent (w .«phandles_room») (w .«phandles_used»)
-
--- room for so many bytes more
-pub has-room : (w : Record) (bytes : ℕ) → noRoom w bytes ≡ false → w .«blob_used» + bytes ≤ w .«blob_room»
-unfolding noRoom
-has-room w bytes e = ltb-false (w .«blob_room») (w .«blob_used» + bytes) e
 
 -- a record that is not overfull is within its room
 pub not-overfull : (w : Record) → overfull w ≡ false → w .«blob_used» ≤ w .«blob_room»

@@ -1,5 +1,5 @@
 -- Misfit 17 and room 14 (document 01, "When the desk says no"): a record's figures against what is lent.
-use Prim.Native.Nat.{ℕ, _+_, _-_, _%_}
+use Prim.Native.Nat.{ℕ, _-_, _%_}
 use mathlib.Core.Bool.{Bool, not, _&&_, _||_}
 use mathlib.Core.List.{List}
 use lib.Dec.{eqb, ltb}
@@ -34,10 +34,6 @@ misfitStrings w strings =
 -- of the phandles: for no other reason
 unfoldable pub misfitPhandles : Record → ℕ → Bool
 misfitPhandles w lent = misfitRoom phandlesCeiling lent (w .«phandles_room») (w .«phandles_used»)
-
--- used + bytes of this call exceeds usable length
-unfoldable pub noRoom : Record → ℕ → Bool
-noRoom w bytes = ltb (w .«blob_room») (w .«blob_used» + bytes)
 
 -- the used length exceeds the usable length: refusal 14, asked of the record that a call would leave
 unfoldable pub overfull : Record → Bool

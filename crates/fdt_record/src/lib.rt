@@ -5,7 +5,7 @@ ghost use lib.ListN.{length};
 ghost use Rattle.fdt_record.specs.declared.Answer.the-variants.{Done, Misfit};
 ghost use Rattle.fdt_record.specs.Answers.{numberOf, accepts, upon};
 ghost use Rattle.fdt_record.specs.Limits.{usable};
-ghost use Rattle.fdt_record.specs.Misfits.{misfitRecord, misfitRoom, offStructure, misfitBlob, misfitStrings, misfitPhandles, noRoom, overfull};
+ghost use Rattle.fdt_record.specs.Misfits.{misfitRecord, misfitRoom, offStructure, misfitBlob, misfitStrings, misfitPhandles, overfull};
 ghost use Rattle.fdt_record.specs.Rows.{first};
 ghost use Rattle.fdt_record.specs.Tests.{aloneRows, blobRows, stringsRows};
 
@@ -235,16 +235,6 @@ pub fn strings_tests(w: Record, lent: usize, strings: &[u8]) -> Answer
     ensures { λ r. ⌜ r ≡ first (stringsRows w lent (now (strings .entry))) ⌝ }
 {
     or_misfit(blob_tests(w, lent), misfit_strings(w, strings))
-}
-
-// Whether so many bytes more have no room in the blob.
-pub fn no_room(w: Record, bytes: usize) -> bool
-    ensures { λ r. ⌜ r ≡ noRoom w bytes ⌝ }
-{
-    if w.blob_room < w.blob_used {
-        return true;
-    }
-    w.blob_room - w.blob_used < bytes
 }
 
 // Whether the used length exceeds the usable length, asked of the record that a call would leave.
