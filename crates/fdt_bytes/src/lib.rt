@@ -1,10 +1,10 @@
-// Big-endian numbers, bytes and padding, in buffers that the caller lends. `rest` is the unused rest of a buffer: its front is written.
+// Big-endian numbers, bytes and padding, written to and read from buffers that the caller lends. `rest` is the unused rest of a buffer; the writers write to its front.
 ghost use mathlib.Core.Path.{_≡_};
-ghost use Prim.Native.Nat.{_+_, _*_, _≤_, _<_, _^_};
+ghost use Prim.Native.Nat.{_+_, _≤_, _<_, _^_};
 ghost use lib.ListN.{length};
-ghost use Rattle.fdt_bytes.specs.BigEndian.{bigEndian, wordAt, wideAt, cellBytes};
+ghost use Rattle.fdt_bytes.specs.BigEndian.{bigEndian, wordAt, wideAt};
 ghost use Rattle.fdt_bytes.specs.Padding.{padding, roundUp, zeros};
-ghost use Rattle.fdt_bytes.specs.Splice.{over, splice};
+ghost use Rattle.fdt_bytes.specs.Splice.{over};
 
 // Writes a number of 4 bytes to the front of the rest.
 pub fn append_u32(rest: &mut [u8], val: u32)
@@ -102,54 +102,4 @@ pub fn align(rest: &mut [u8], len: usize, alignment: usize)
     ensures { λ _. ⌜ now (rest .exit) ≡ over (zeros (padding alignment len)) (now (rest .entry)) ⌝ }
 {
     pad(rest, padding_of(len, alignment));
-}
-
-// Rewrites a number of 4 bytes at an offset of the blob.
-pub fn update_u32(blob: &mut [u8], offset: usize, val: u32)
-    requires { ⌜ offset + 4 ≤ length (now blob) ⌝ }
-    ensures { λ _. ⌜ now (blob .exit) ≡ splice offset (bigEndian 4 val) (now (blob .entry)) ⌝ }
-{
-    append_u32(&mut blob[offset..], val);
-}
-
-// Writes the bytes of a value from a place of the blob on.
-pub fn bytes_at(blob: &mut [u8], at: usize, val: &[u8])
-    requires { ⌜ at + length (now val) ≤ length (now blob) ⌝ }
-    ensures { λ _. ⌜ now (blob .exit) ≡ splice at (now (val .entry)) (now (blob .entry)) ⌝ }
-{
-    append_bytes(&mut blob[at..], val);
-}
-
-// Writes zeros from a place of the blob on.
-pub fn zeros_at(blob: &mut [u8], at: usize, num_bytes: usize)
-    requires { ⌜ at + «num_bytes» ≤ length (now blob) ⌝ }
-    ensures { λ _. ⌜ now (blob .exit) ≡ splice at (zeros «num_bytes») (now (blob .entry)) ⌝ }
-{
-    pad(&mut blob[at..], num_bytes);
-}
-
-// Writes numbers of 4 bytes, one after the other, from a place of the blob on.
-pub fn cells_at(blob: &mut [u8], at: usize, cells: &[u32])
-    requires { ⌜ at + 4 * length (now cells) ≤ length (now blob) ⌝ }
-    ensures { λ _. ⌜ now (blob .exit) ≡ splice at (cellBytes 4 (now (cells .entry))) (now (blob .entry)) ⌝ }
-{
-    let mut i = 0;
-    while i < cells.len() {
-        let to = at + 4 * i;
-        append_u32(&mut blob[to..], cells[i]);
-        i += 1;
-    }
-}
-
-// Writes numbers of 8 bytes, one after the other, from a place of the blob on.
-pub fn wide_cells_at(blob: &mut [u8], at: usize, cells: &[u64])
-    requires { ⌜ at + 8 * length (now cells) ≤ length (now blob) ⌝ }
-    ensures { λ _. ⌜ now (blob .exit) ≡ splice at (cellBytes 8 (now (cells .entry))) (now (blob .entry)) ⌝ }
-{
-    let mut i = 0;
-    while i < cells.len() {
-        let to = at + 8 * i;
-        append_u64(&mut blob[to..], cells[i]);
-        i += 1;
-    }
 }

@@ -72,7 +72,7 @@ fn put_header(blob: &mut [u8], words: &[u32])
 {
     let mut i = 0;
     while i < words.len() {
-        fdt_bytes::update_u32(blob, 4 * i, words[i]);
+        fdt_splice::update_u32(blob, 4 * i, words[i]);
         i += 1;
     }
 }

@@ -76,9 +76,9 @@ fn write_mem_rsvmap(blob: &mut [u8], mem_reservations: &[u64])
     requires { ⌜ 56 + 8 * length (now «mem_reservations») ≤ length (now blob) ⌝ }
     ensures { λ _. ⌜ now (blob .exit) ≡ splice 0 (openingBytes (now («mem_reservations» .entry))) (now (blob .entry)) ⌝ }
 {
-    fdt_bytes::zeros_at(blob, 0, Header::SIZE);
-    fdt_bytes::wide_cells_at(blob, Header::SIZE, mem_reservations);
-    fdt_bytes::zeros_at(
+    fdt_splice::zeros_at(blob, 0, Header::SIZE);
+    fdt_splice::wide_cells_at(blob, Header::SIZE, mem_reservations);
+    fdt_splice::zeros_at(
         blob,
         Header::SIZE + 8 * mem_reservations.len(),
         fdt_header::RESERVATION_SIZE,

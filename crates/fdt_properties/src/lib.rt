@@ -174,9 +174,9 @@ fn put_frame(blob: &mut [u8], used: usize, offset: usize, len: usize, end: usize
     requires { ⌜ FrameFits used offset len end (length (now blob)) ⌝ }
     ensures { λ _. ⌜ now (blob .exit) ≡ framed used offset len end (now (blob .entry)) ⌝ }
 {
-    fdt_bytes::cells_at(blob, used, &[FDT_PROP, len as u32, offset as u32]);
+    fdt_splice::cells_at(blob, used, &[FDT_PROP, len as u32, offset as u32]);
     let behind = used + 12 + len;
-    fdt_bytes::zeros_at(blob, behind, end - behind);
+    fdt_splice::zeros_at(blob, behind, end - behind);
 }
 
 // Makes all tests and writes the property except its value: its name, its words and its padding.
@@ -226,7 +226,7 @@ pub fn write_bytes(
     if !fdt_record::accepted(answer) {
         return outcome;
     }
-    fdt_bytes::bytes_at(blob, placed.at, val);
+    fdt_splice::bytes_at(blob, placed.at, val);
     outcome
 }
 
@@ -251,7 +251,7 @@ pub fn write_cells(
     if !fdt_record::accepted(answer) {
         return outcome;
     }
-    fdt_bytes::cells_at(blob, placed.at, numbers);
+    fdt_splice::cells_at(blob, placed.at, numbers);
     outcome
 }
 
@@ -276,7 +276,7 @@ pub fn write_wide_cells(
     if !fdt_record::accepted(answer) {
         return outcome;
     }
-    fdt_bytes::wide_cells_at(blob, placed.at, numbers);
+    fdt_splice::wide_cells_at(blob, placed.at, numbers);
     outcome
 }
 

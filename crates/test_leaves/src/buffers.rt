@@ -49,7 +49,7 @@ fn put_number(kind: usize, buffer: &mut [u8], at: usize, val: u64) {
             fdt_bytes::append_u64(buffer, val);
         },
         11 => if at <= n - 4 {
-            fdt_bytes::update_u32(buffer, at, numbers::low(val));
+            fdt_splice::update_u32(buffer, at, numbers::low(val));
         },
         _ => fdt_bytes::align(buffer, val as usize, 4),
     }

@@ -1,10 +1,10 @@
 -- `update_u32` meets its contract: the front of the lent part is overwritten (`lent`).
 use native.Mathlib.Omega.{arith}
 use borrow.Author.Needs.{needs}
 use Rattle.fdt_bytes.specs.BigEndian.{bigEndian}
 use Rattle.fdt_bytes.proofs.Splice.{lent}
-use Rattle.fdt_bytes.proofs.update_u32.Statement.{statement}
-use Rattle.fdt_bytes.proofs.update_u32.Tie as tie
+use Rattle.fdt_splice.proofs.update_u32.Statement.{statement}
+use Rattle.fdt_splice.proofs.update_u32.Tie as tie
 
 returns : tie.Need-returns
 returns c =

@@ -1,10 +1,10 @@
 -- `zeros_at` meets its contract: the front of the lent part is overwritten (`lent`).
 use native.Mathlib.Omega.{arith}
 use borrow.Author.Needs.{needs}
 use Rattle.fdt_bytes.specs.Padding.{zeros}
 use Rattle.fdt_bytes.proofs.Splice.{lent}
-use Rattle.fdt_bytes.proofs.zeros_at.Statement.{statement}
-use Rattle.fdt_bytes.proofs.zeros_at.Tie as tie
+use Rattle.fdt_splice.proofs.zeros_at.Statement.{statement}
+use Rattle.fdt_splice.proofs.zeros_at.Tie as tie
 
 returns : tie.Need-returns
 returns c =

@@ -3,9 +3,9 @@ use Prim.Native.Nat.{_-_}
 use native.Mathlib.Omega.{arith}
 use borrow.Author.Needs.{needs}
 use lib.ListN.{length}
 use Rattle.fdt_bytes.proofs.Cells.{Written, written-none, written-more, written-all}
-use Rattle.fdt_bytes.proofs.cells_at.Statement.{statement}
-use Rattle.fdt_bytes.proofs.cells_at.Tie as tie
+use Rattle.fdt_splice.proofs.cells_at.Statement.{statement}
+use Rattle.fdt_splice.proofs.cells_at.Tie as tie
 
 abbrev Inv-loop : tie.InvT-loop
 Inv-loop blob₀ at cells i₀ blob i = Written 4 at cells blob₀ blob i

@@ -1,9 +1,9 @@
 -- `bytes_at` meets its contract: the front of the lent part is overwritten (`lent`).
 use native.Mathlib.Omega.{arith}
 use borrow.Author.Needs.{needs}
 use Rattle.fdt_bytes.proofs.Splice.{lent}
-use Rattle.fdt_bytes.proofs.bytes_at.Statement.{statement}
-use Rattle.fdt_bytes.proofs.bytes_at.Tie as tie
+use Rattle.fdt_splice.proofs.bytes_at.Statement.{statement}
+use Rattle.fdt_splice.proofs.bytes_at.Tie as tie
 
 returns : tie.Need-returns
 returns c =
