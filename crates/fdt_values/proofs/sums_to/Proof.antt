@@ -23,7 +23,8 @@ returns : tie.Need-returns Inv-loop μ-loop
 returns c = too-little _ _ _ _ (c .before .before .loop-test .taken) (c .before .before .before .loop .inv .1) (c .if1 .taken)
 
 loop-again : tie.Need-loop-again Inv-loop μ-loop
-loop-again c = omega (arith, sum-more (c .before .before .before .before .args .lengths .now) (c .before .before .before .loop .i) (c .before .before .loop-test .taken))
+loop-again c =
+    let l = c .before .before .before in omega (arith, sum-more (l .before .args .lengths .now) (l .loop .i) (c .before .before .loop-test .taken))
 
 returns-2 : tie.Need-returns-2 Inv-loop μ-loop
 returns-2 c = none-left _ _ _ _ (c .loop-test .left) (c .before .loop .inv .1)

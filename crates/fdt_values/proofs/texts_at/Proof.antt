@@ -1,8 +1,9 @@
 -- `texts_at` meets its contract: the first i strings have been written, and the next one lies within the bytes and fits.
-use Prim.Native.Nat.{_-_}
+use mathlib.Core.Path.{_≡_}
+use Prim.Native.Nat.{_+_, _-_, _≤_}
 use native.Mathlib.Omega.{arith}
-use lib.ListN.{length}
-use Rattle.fdt_values.proofs.Texts.{Written, written-none, written-more, written-all, next-within, next-fits, length-next}
+use lib.ListN.{length, getD}
+use Rattle.fdt_values.proofs.Texts.{Written, written-none, written-more, written-all, next-within, next-fits, cut, length-next}
 use Rattle.fdt_values.proofs.texts_at.Statement.{statement}
 use Rattle.fdt_values.proofs.texts_at.Tie as tie
 
@@ -12,32 +13,30 @@ Inv-loop blob₀ at joined lengths to₀ start₀ i₀ blob to start i = Written
 abbrev μ-loop : tie.MeasureT-loop
 μ-loop blob₀ at joined lengths to₀ start₀ i₀ blob to start i = length lengths - i
 
-loop-holds : tie.Need-loop-holds Inv-loop μ-loop
-loop-holds c = written-none
+abbrev begun : tie.At-loop Inv-loop μ-loop → tie.Start Inv-loop μ-loop
+begun c = c .before .before .before .before
 
-add-end : tie.Need-add-end Inv-loop μ-loop
-add-end c = omega (arith, next-within (c .before .before .before .before .before .before .pre) (c .before .before .loop .inv) (c .before .loop-test .taken))
+-- the turn in which a string was stored
+abbrev turn : tie.After-store-string Inv-loop μ-loop → tie.In-loop Inv-loop μ-loop
+turn c = c .before .before .before .before
 
-part-store-string-end : tie.Need-part-store-string-end Inv-loop μ-loop
-part-store-string-end c = next-within (c .before .before .before .before .before .before .before .pre) (c .before .before .before .loop .inv) (c .before .before .loop-test .taken)
+-- the next string, in its turn
+within : (c : tie.In-loop Inv-loop μ-loop) → let a = begun (c .before) .args in c .before .loop .start + getD (a .lengths .now) (c .before .loop .i) 0 ≤ length (a .joined .now)
+within c = next-within (begun (c .before) .pre) (c .before .loop .inv) (c .loop-test .taken)
+
+fits : (c : tie.In-loop Inv-loop μ-loop) → let a = begun (c .before) .args in c .before .loop .to + (getD (a .lengths .now) (c .before .loop .i) 0 + 1) ≤ length (a .blob .now)
+fits c = next-fits (begun (c .before) .pre) (c .before .loop .inv) (c .loop-test .taken)
+
+sized : (c : tie.In-loop Inv-loop μ-loop) → let a = begun (c .before) .args in let l = c .before .loop in length (cut (a .joined .now) (a .lengths .now) (l .start) (l .i)) ≡ getD (a .lengths .now) (l .i) 0 + 1
+sized c = length-next (begun (c .before) .pre) (c .before .loop .inv) (c .loop-test .taken)
 
 store-string-requires : tie.Need-store-string-requires Inv-loop μ-loop
-store-string-requires c κs = omega (arith, next-fits (c .before .before .before .before .before .before .before .before .pre) (c .before .before .before .before .loop .inv) (c .before .before .before .loop-test .taken), length-next (c .before .before .before .before .before .before .before .before .pre) (c .before .before .before .before .loop .inv) (c .before .before .before .loop-test .taken))
-
-add-to : tie.Need-add-to Inv-loop μ-loop
-add-to c = omega (arith, next-fits (c .before .before .before .before .before .before .before .before .before .before .before .pre) (c .before .before .before .before .before .before .before .loop .inv) (c .before .before .before .before .before .before .loop-test .taken))
-
-add-to-2 : tie.Need-add-to-2 Inv-loop μ-loop
-add-to-2 c = omega (arith, next-fits (c .before .before .before .before .before .before .before .before .before .before .before .pre) (c .before .before .before .before .before .before .before .loop .inv) (c .before .before .before .before .before .before .loop-test .taken))
+store-string-requires c κs = let p = c .before .before .before in omega (arith, fits p, sized p)
 
 loop-again : tie.Need-loop-again Inv-loop μ-loop
-loop-again c = written-more (c .before .before .before .before .before .before .before .before .before .before .before .pre) (c .before .before .before .before .before .before .before .loop .inv) (c .before .before .before .before .before .before .loop-test .taken) (c .before .before .store-string .ensures)
-
-same-length : tie.Need-same-length Inv-loop μ-loop
-same-length c = c .before .loop .inv .kept
-
-returns : tie.Need-returns Inv-loop μ-loop
-returns c = written-all (c .before .loop .inv) (c .loop-test .left)
+loop-again c =
+    let p = turn (c .before .before) in
+    written-more (begun (p .before) .pre) (p .before .loop .inv) (p .loop-test .taken) (c .before .before .store-string .ensures)
 
 pub texts-at-spec : {M : Type 1} → statement M
 texts-at-spec =
@@ -45,16 +44,14 @@ texts-at-spec =
     (tie.spec
     Inv-loop
     μ-loop
-    loop-holds
+    (λ c. written-none) (λ c. omega arith) (λ c. omega arith)
+    (λ c. omega (arith, within (c .before)))
     (λ c. omega arith) (λ c. omega arith)
-    add-end
-    (λ c. omega arith) (λ c. omega arith)
-    part-store-string-end
+    (λ c. within (c .before .before))
     store-string-requires
     (λ c. omega arith)
-    add-to
-    add-to-2
+    (λ c. omega (arith, fits (turn (c .before .before)))) (λ c. omega (arith, fits (turn (c .before .before))))
     (λ c. omega arith) (λ c. omega arith)
     loop-again
-    same-length
-    returns)
+    (λ c. c .before .loop .inv .kept)
+    (λ c. written-all (c .before .loop .inv) (c .loop-test .left)))
