@@ -1,7 +1,9 @@
 -- `property_phandle` meets its contract: refused before the value is recorded, nothing is altered; else the value stands at the count, and the property answers.
-use mathlib.Core.Path.{sym, _∙_}
+use mathlib.Core.Path.{_≡_, sym, _∙_}
+use mathlib.Core.Bool.{true}
 use borrow.Author.Tests.{not-true, not-false}
 use lib.ListN.{length}
+use Rattle.fdt_record.specs.Answers.{accepts}
 use Rattle.fdt_record.proofs.Answers.{accepts-done, left-accepted, left-refused}
 use Rattle.fdt_phandles.specs.Phandle.{recorded, phandle, phandleBlob, phandleStrings, phandleTable}
 use Rattle.fdt_phandles.proofs.Phandles.{RecordFits, record-fits, refused-outcome}
@@ -10,13 +12,19 @@ use native.Mathlib.Omega.{arith}
 use Rattle.fdt_phandles.proofs.property_phandle.Statement.{statement}
 use Rattle.fdt_phandles.proofs.property_phandle.Tie as tie
 
+abbrev begun : tie.After-record-tests → tie.Start
+begun c = let p = c .before .before .before in p .before .before .before
+
+-- the place of the test, from where the property is written
+abbrev recorded-at : tie.After-put-phandle → tie.Else1
+recorded-at c = c .before .before .before
+
 -- the tests were passed
-went :
-    (c : tie.Else1) →
-    let a = c .before .before .before .before .before .before .before .before .args in
-    RecordFits (a .w) (length (a .phandles .now))
-went c =
-    record-fits _ _ _ _ _ (sym (c .before .before .record-tests .ensures) ∙ accepts-done _ (sym (c .before .accepted .ensures) ∙ not-false _ (c .if1 .left)))
+passed : (c : tie.Else1) → accepts (c .before .before .record-tests .result) ≡ true
+passed c = sym (c .before .accepted .ensures) ∙ not-false _ (c .if1 .left)
+
+went : (c : tie.Else1) → let a = begun (c .before .before) .args in RecordFits (a .w) (length (a .phandles .now))
+went c = record-fits _ _ _ _ _ (sym (c .before .before .record-tests .ensures) ∙ accepts-done _ (passed c))
 
 returns : tie.Need-returns
 unfolding phandle phandleBlob phandleStrings phandleTable
@@ -42,9 +50,11 @@ add-recorded c = let f = went c in omega (arith, f .room, f .phandles .small)
 returns-2 : tie.Need-returns-2
 unfolding recorded phandle phandleBlob phandleStrings phandleTable
 returns-2 c =
-    let told = c .before .before .before .before .before .before .before .before .before .record-tests .ensures in
-    let t = sym (c .before .before .before .before .before .before .before .before .accepted .ensures) ∙ not-false _ (c .before .before .before .before .before .before .before .if1 .left) in
-    let wrote = c .before .before .before .before .put-phandle .ensures in
+    let q = c .before .before .before .before in
+    let p = recorded-at q in
+    let told = p .before .before .record-tests .ensures in
+    let t = passed p in
+    let wrote = q .put-phandle .ensures in
     record {
       result = wrote .result ∙ left-accepted _ _ told _ _ t;
       bytes = wrote .bytes ∙ left-accepted _ _ told _ _ t;
