@@ -141,7 +141,7 @@ module _ {w : Record} {blob strings name : List ℕ} {v : Value} {r : Placed} {b
         names = p .names;
       }
 
--- what the tests ask of each kind of value
+-- Each kind of value: what the tests ask of it, and that it fits where it goes.
 pub of-bytes : (bytes : List ℕ) → Measures (record { misfit = false; zero = false; len = length bytes }) (raw bytes)
 unfolding misfitValue zeroValue valueBytes
 of-bytes bytes = record { misfit-is = refl; zero-is = refl; len-is = λ h. refl }
@@ -159,3 +159,20 @@ of-texts joined lengths e z = record {
   zero-is = z;
   len-is = λ h. sym (length-texts joined lengths (fits-texts joined lengths h));
 }
+
+module _ {w : Record} {blob strings name : List ℕ} {r : Placed} {b s : List ℕ} where
+  pub bytes-fit : {bytes : List ℕ} → Placeholder w blob strings name (raw bytes) r b s → accepts (r .outcome .answer) ≡ true → r .at + length bytes ≤ length b
+  unfolding valueBytes
+  bytes-fit p t = p .accepted t .fits
+
+  pub cells-fit : {width : ℕ} {numbers : List ℕ} → Placeholder w blob strings name (cells width numbers) r b s → accepts (r .outcome .answer) ≡ true → r .at + width * length numbers ≤ length b
+  unfolding valueBytes
+  cells-fit {width} {numbers} p t = rw (sym (length-cells width numbers)) (p .accepted t .fits)
+
+  pub texts-fit :
+      {joined lengths : List ℕ} → Placeholder w blob strings name (texts joined lengths) r b s → accepts (r .outcome .answer) ≡ true →
+      (sum lengths ≡ length joined) × (r .at + (length joined + length lengths) ≤ length b)
+  unfolding valueBytes
+  texts-fit {joined} {lengths} p t =
+      let u = p .accepted t in
+      let e = fits-texts joined lengths (u .in-order) in (e, rw (sym (length-texts joined lengths e)) (u .fits))

@@ -3,42 +3,39 @@ use mathlib.Core.Path.{_≡_, sym, _∙_}
 use mathlib.Core.Bool.{true}
 use borrow.Author.Needs.{needs}
 use borrow.Author.Tests.{not-true, not-false}
-use native.Mathlib.Omega.{arith}
-use Rattle.fdt_bytes.proofs.BigEndian.{length-cells}
-use Rattle.fdt_values.specs.Value.{cells, valueBytes}
+use Rattle.fdt_values.specs.Value.{valueBytes}
 use Rattle.fdt_record.specs.Answers.{accepts}
-use Rattle.fdt_properties.proofs.Filling.{left-unfilled, filled-with, of-cells}
+use Rattle.fdt_properties.proofs.Filling.{left-unfilled, filled-with, of-cells, cells-fit}
 use Rattle.fdt_properties.proofs.write_cells.Statement.{statement}
 use Rattle.fdt_properties.proofs.write_cells.Tie as tie
 
 abbrev called : tie.After-accepted → tie.After-property-placeholder
-called c = c .before .before .before .before .before .before
+called c = let p = c .before .before .before in p .before .before .before
 
 abbrev begun : tie.After-property-placeholder → tie.Start
-begun c = c .before .before .before .before .before .before .before
+begun c = let p = c .before .before .before in p .before .before .before .before
 
--- the tests were passed
 went : (c : tie.Else1) → accepts (called (c .before) .property-placeholder .result .outcome .answer) ≡ true
 went c = sym (c .before .accepted .ensures) ∙ not-false _ (c .if1 .left)
 
 returns : tie.Need-returns
 returns c =
-    let p = called (c .before) in
-    left-unfilled (p .property-placeholder .ensures (cells 4 (begun p .args .numbers .now)) (of-cells 4 (begun p .args .numbers .now))) (sym (c .before .accepted .ensures) ∙ not-true _ (c .if1 .taken))
+    let q = called (c .before) in
+    left-unfilled (q .property-placeholder .ensures _ (of-cells 4 _)) (sym (c .before .accepted .ensures) ∙ not-true _ (c .if1 .taken))
 
 cells-at-requires : tie.Need-cells-at-requires
-unfolding valueBytes
 cells-at-requires c κs =
-    let p = called (c .before .before) in
-    let f = p .property-placeholder .ensures (cells 4 (begun p .args .numbers .now)) (of-cells 4 (begun p .args .numbers .now)) .accepted (went (c .before)) in
-    omega (arith, f .fits, length-cells 4 (begun p .args .numbers .now))
+    let p = c .before in
+    let q = called (p .before) in
+    let a = begun q .args in
+    cells-fit (q .property-placeholder .ensures _ (of-cells 4 (a .numbers .now))) (went p)
 
 returns-2 : tie.Need-returns-2
 unfolding valueBytes
 returns-2 c =
-    let q = c .before .before .before .before in
-    let p = called (q .before) in
-    filled-with (p .property-placeholder .ensures (cells 4 (begun p .args .numbers .now)) (of-cells 4 (begun p .args .numbers .now))) (went q) (c .before .before .cells-at .ensures)
+    let p = c .before .before .before .before in
+    let q = called (p .before) in
+    filled-with (q .property-placeholder .ensures _ (of-cells 4 _)) (went p) (c .before .before .cells-at .ensures)
 
 pub write-cells-spec : {M : Type 1} → statement M
 write-cells-spec =
