@@ -37,7 +37,7 @@ use Rattle.fdt_finish.proofs.Shown.{shown-whole}
 use Rattle.fdt_promises.specs.Calls.{to-finish, Desk, answer, after}
 use Rattle.fdt_promises.specs.Run.{reservationsOf}
 use Rattle.fdt_promises.proofs.Desks.{finished-after}
-use Rattle.fdt_promises.proofs.Growth.{take-spliced}
+use Rattle.fdt_promises.proofs.Growth.{more-filled}
 use Rattle.fdt_promises.proofs.Held.{Open}
 use Rattle.fdt_promises.proofs.Usable.{take-splice}
 
@@ -96,8 +96,7 @@ unfolding splice over
 splice-front n header rest h = ap (λ (l : List ℕ). header ++ l) (drop-at (zeros n) rest (length header) (length-zeros n ∙ sym h))
 
 same-header : {a a′ b b′ c c′ d d′ : ℕ} → a ≡ a′ → b ≡ b′ → c ≡ c′ → d ≡ d′ → headerBytes a b c d ≡ headerBytes a′ b′ c′ d′
-same-header {a} {a′} {b} {b′} {c} {c′} {d} {d′} p q r t =
-    ap (λ (n : ℕ). headerBytes n b c d) p ∙ ap (λ (n : ℕ). headerBytes a′ n c d) q ∙ ap (λ (n : ℕ). headerBytes a′ b′ n d) r ∙ ap (headerBytes a′ b′ c′) t
+same-header p q r t = λ i. headerBytes (p i) (q i) (r i) (t i)
 
 module _ {numbers : List ℕ} {es : List Event} {boot : ℕ} {marks : List ℕ} {s : Desk} (o : Open numbers es boot marks s) (e : answer to-finish s ≡ Done) where
   -- the used part of the finished blob
@@ -120,8 +119,7 @@ module _ {numbers : List ℕ} {es : List Event} {boot : ℕ} {marks : List ℕ} 
       take-splice (used + (4 + count-used)) 0 header (splice used final (s .blob)) (omega (arith, m, f .started)) (omega (arith, l, f .room, f .within))
       ∙ ap (splice 0 header)
       (ap (λ (j : ℕ). take j (splice used final (s .blob))) k
-      ∙ take-spliced used final (s .blob) room
-      ∙ ap (λ (x : List ℕ). x ++ final) (h .blob .part)
+      ∙ more-filled (h .blob) final (omega (arith, n, f .room)) .part
       ∙ append-assoc (zeros headerSize) (reservationBytes numbers ++ structure) final
       ∙ ap (λ (x : List ℕ). zeros headerSize ++ x) (append-assoc (reservationBytes numbers) structure final))
       ∙ splice-front headerSize header (reservationBytes numbers ++ (structure ++ final)) m

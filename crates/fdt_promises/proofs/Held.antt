@@ -129,11 +129,10 @@ module _ {numbers : List ℕ} {es : List Event} {boot : ℕ} {marks : List ℕ} 
       let n : namesOf (es ++ (event ∷ [])) ≡ withName (namesOf es) name = names-snoc es event in
       let are : written (s .writer) (s .strings) name v ≡ eventBytes (namesOf (es ++ (event ∷ []))) event =
       ap (λ (i : ℕ). propertyBytes i (valueBytes v)) (g .offset ∙ ap (λ (l : List (List ℕ)). offsetOf l name) (sym n)) in
-      let size : length (written (s .writer) (s .strings) name v) ≡ eventSize event = ap length are ∙ event-size (namesOf (es ++ (event ∷ []))) event in
       subst (Open numbers (es ++ (event ∷ [])) boot marks) (sym (had-after s name v e))
       (grown-open event (written (s .writer) (s .strings) name v) (stored p name (s .strings)) (s .writer .«strings_used» + added p name) (record {
         are = are;
-        room = omega (arith, f .room, size);
+        room = f .room;
         filled = subst (λ (l : List (List ℕ)). Filled stringsCeiling (joined l) (s .writer .«strings_room») (s .writer .«strings_used» + added p name) (stored p name (s .strings))) (sym n) (g .filled);
         plain = no-zero name (f .plain);
         follows = (f .inside, f .unended);

@@ -1,6 +1,5 @@
 -- An accepted call changes only its own bytes, and they lie inside the usable length.
 use mathlib.Core.Path.{_≡_, refl, sym, ap, subst, _∙_}
-use mathlib.Core.Bool.{false, true≢false}
 use mathlib.Core.List.{List}
 use mathlib.Core.Logic.{_⊎_, inr, ⊎-elim, ⊎-map}
 use Prim.Native.Nat.{ℕ, _+_, _≤_, _<_}
@@ -17,7 +16,7 @@ use Rattle.fdt_strings.proofs.Places.{new-placed}
 use Rattle.fdt_header.specs.Header.{headerSize, headerBytes}
 use Rattle.fdt_format.specs.Tokens.{beginBytes, endBytes, finalBytes}
 use Rattle.fdt_format.proofs.Tokens.{length-end, length-final}
-use Rattle.fdt_values.specs.Value.{Value, valueBytes}
+use Rattle.fdt_values.specs.Value.{Value}
 use Rattle.fdt_record.specs.declared.Answer.the-variants.{Done}
 use Rattle.fdt_record.specs.declared.Outcome.{Outcome}
 use Rattle.fdt_record.specs.declared.Record.{Record}
