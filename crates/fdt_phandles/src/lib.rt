@@ -1,4 +1,4 @@
-// Recording a phandle, and writing its property.
+// Records a phandle in the table, and writes its property.
 ghost use mathlib.Core.Path.{_≡_};
 ghost use Prim.Native.Nat.{_≤_};
 ghost use lib.ListN.{length, take};
@@ -27,7 +27,7 @@ fn is_recorded(phandles: &[u32], count: usize, val: u32) -> bool
     false
 }
 
-// The tests before a phandle is recorded, in their order.
+// The tests before a phandle is recorded: 18, 17, 13, 16.
 fn record_tests(w: Record, lent: usize, strings: &[u8], phandles: &[u32], val: u32) -> Answer
     ensures { λ r. ⌜ r ≡ recordAnswer w lent (now (strings .entry)) (now (phandles .entry)) val ⌝ }
 {

@@ -1,4 +1,4 @@
--- What the functions that write a property in two steps promise each other: all but its value, and then its value.
+-- A property is written in two steps, a placeholder and then its value. What the functions of these steps promise each other.
 use mathlib.Core.Path.{_≡_}
 use mathlib.Core.Bool.{true, false, cond}
 use mathlib.Core.List.{List, [], _∷_}
@@ -20,13 +20,13 @@ use Rattle.fdt_properties.specs.declared.Tested.{Tested}
 use Rattle.fdt_properties.specs.declared.Placed.{Placed}
 use Rattle.fdt_properties.specs.Property.{placeOf, isFull, placeOffset, added, written, propertyRecord, propertyAnswer, property, propertyStrings}
 
--- what is known of a name's place
+-- the figures of a name's place
 pub record PlaceIs (p : Interned) (name : List ℕ) (r : Place) : Type 0 where
   pub full-is : r .full ≡ isFull p
   pub offset-is : r .offset ≡ placeOffset p
   pub added-is : r .added ≡ added p name
 
--- what is known of a value; its length only if its lengths are right
+-- the figures of a value; the length counts only if the lengths of its strings are right
 pub record Measures (m : Measured) (v : Value) : Type 0 where
   pub misfit-is : m .misfit ≡ misfitValue v
   pub zero-is : m .zero ≡ zeroValue v
@@ -36,43 +36,43 @@ pub record Measures (m : Measured) (v : Value) : Type 0 where
 abbrev pub NameFits : (offset added : ℕ) (name strings : List ℕ) → Type 0
 NameFits offset added name strings = (added ≡ 0 → ⊥) → offset + length (entry name) ≤ length strings
 
--- the strings after that
+-- the strings with such a name stored
 unfoldable pub storedAt : (offset added : ℕ) (name strings : List ℕ) → List ℕ
 storedAt offset added name strings = cond (eqb added 0) strings (splice offset (entry name) strings)
 
--- a property of so many value bytes fits into a blob of so many bytes, and its figures into words
+-- a property with `len` bytes of value ends within the blob, and its figures fit into words
 pub record FrameFits (used offset len end lent : ℕ) : Type 0 where
   pub ends : end ≡ used + (12 + roundUp 4 len)
   pub within : end ≤ lent
   pub small : len < 2 ^ 32
   pub near : offset < 2 ^ 32
 
--- the blob with a property's words, and zeros from behind its value to the end
+-- the blob with a property's words from `used` on, and zeros from the end of its value to `end`
 unfoldable pub framed : (used offset len end : ℕ) → List ℕ → List ℕ
 framed used offset len end blob =
     splice (used + 12 + len) (zeros (end - (used + 12 + len)))
     (splice used (cellBytes 4 (propertyToken ∷ len ∷ offset ∷ [])) blob)
 
--- what passed tests tell
+-- what holds once the tests are passed
 pub record Passed (w : Record) (blob strings name : List ℕ) (m : Measured) (r : Tested) : Type 0 where
   pub offset-is : r .offset ≡ placeOffset (placeOf w strings name)
   pub added-is : r .added ≡ added (placeOf w strings name) name
   pub name-fits : NameFits (r .offset) (r .added) name strings
   pub frame-fits : FrameFits (w .«blob_used») (r .offset) (m .len) (r .after .«blob_used») (length blob)
 
--- the tests of a property, of any value that is measured so
+-- the tests of a property: what they say holds of every value with these figures
 pub record Tests (w : Record) (blob strings name : List ℕ) (m : Measured) (r : Tested) : Type 0 where
   pub passed : accepts (r .answer) ≡ true → Passed w blob strings name m r
   pub answered : (v : Value) → Measures m v → r .answer ≡ propertyAnswer w blob strings name v
   pub after-is : (v : Value) → Measures m v → accepts (r .answer) ≡ true → (misfitValue v ≡ false) × (r .after ≡ propertyRecord w strings name v)
 
--- what is left of a property to be written, once it is accepted: its value, from a place on
+-- an accepted property whose value is missing: written at `at`, it makes the whole property
 pub record Unfilled (w : Record) (blob strings name : List ℕ) (v : Value) (at : ℕ) (blobAfter : List ℕ) : Type 0 where
   pub in-order : misfitValue v ≡ false
   pub fits : at + length (valueBytes v) ≤ length blobAfter
   pub filled : splice at (valueBytes v) blobAfter ≡ splice (w .«blob_used») (written w strings name v) blob
 
--- a property except its value
+-- a property without its value
 pub record Placeholder (w : Record) (blob strings name : List ℕ) (v : Value) (r : Placed) (blobAfter stringsAfter : List ℕ) : Type 0 where
   pub result : r .outcome ≡ property w blob strings name v
   pub names : stringsAfter ≡ propertyStrings w blob strings name v

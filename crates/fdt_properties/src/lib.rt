@@ -1,4 +1,4 @@
-// Writing a property: its tests, its name in the strings, its words and padding, and then its value.
+// Writes a property: makes its tests, stores its name, writes its words and padding, and then its value.
 ghost use mathlib.Core.Path.{_≡_};
 ghost use mathlib.Core.List.{[], _∷_, _++_};
 ghost use Prim.Native.Nat.{_+_, _-_, _≤_, _<_, _^_};
@@ -17,7 +17,7 @@ use fdt_record::Outcome;
 use fdt_record::Record;
 use fdt_strings::Interned;
 
-// What the tests ask of a value: whether its lengths do not sum to its bytes, whether a string has a byte 0, how many bytes it takes.
+// What the tests ask of a value: whether the lengths of its strings do not sum to its bytes, whether a string has a byte 0, and how many bytes it takes.
 struct Measured {
     misfit: bool,
     zero: bool,
@@ -110,7 +110,7 @@ fn place_of(w: Record, strings: &[u8], name: &[u8]) -> Place
     }
 }
 
-// The record after a property with a value of `len` bytes, whose name adds so many bytes to the strings.
+// The record after a property: `len` bytes of value, and `added` bytes for its name.
 fn after_property(w: Record, len: usize, added: usize) -> Record
     requires { ⌜ w .«blob_used» + (12 + roundUp 4 len) < 2 ^ 64 ⌝ }
     requires { ⌜ w .«strings_used» + added < 2 ^ 64 ⌝ }
@@ -169,7 +169,7 @@ fn store_name(strings: &mut [u8], offset: usize, added: usize, name: &[u8])
     }
 }
 
-// Writes a property's words from the used length on, and zeros from behind its value to the end.
+// Writes a property's three words at `used`, and zeros from the end of its value to `end`.
 fn put_frame(blob: &mut [u8], used: usize, offset: usize, len: usize, end: usize)
     requires { ⌜ FrameFits used offset len end (length (now blob)) ⌝ }
     ensures { λ _. ⌜ now (blob .exit) ≡ framed used offset len end (now (blob .entry)) ⌝ }
@@ -179,7 +179,7 @@ fn put_frame(blob: &mut [u8], used: usize, offset: usize, len: usize, end: usize
     fdt_splice::zeros_at(blob, behind, end - behind);
 }
 
-// Makes all tests and writes the property except its value: its name, its words and its padding.
+// Makes all tests of a property and, if they are passed, writes everything except its value: its name, words and padding.
 fn property_placeholder(
     w: Record,
     blob: &mut [u8],
