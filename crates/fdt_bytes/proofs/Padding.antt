@@ -1,5 +1,5 @@
 -- Laws of rounding up, for any multiple m above 0: the result is the least multiple of m that is not below the length.
-use mathlib.Core.Path.{_≡_, refl, sym, ap, _∙_}
+use mathlib.Core.Path.{_≡_, sym, ap, _∙_}
 use Prim.Native.Nat.{ℕ, suc, _+_, _-_, _*_, _/_, _%_, _≤_, _<_}
 use native.Mathlib.Nat.{mod-lt, mod-self, add-mod-mod, mod-add-mod, mod-eq-of-lt, div-add-mod', mul-le-mul-right, lt-of-mul-lt-mul-right, suc-mul, le-of-suc-le-suc}
 use native.Mathlib.Omega.{arith}

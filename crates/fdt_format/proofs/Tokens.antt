@@ -1,8 +1,7 @@
 -- How many bytes each token takes (document 01, "The bytes").
 use mathlib.Core.Path.{_≡_, ap, _∙_}
-use mathlib.Core.List.{List, [], _∷_, _++_}
+use mathlib.Core.List.{List, [], _∷_}
 use Prim.Native.Nat.{ℕ, _+_}
-use native.Mathlib.Omega.{arith}
 use lib.ListN.{length, length-append}
 use Rattle.fdt_bytes.specs.BigEndian.{bigEndian, cellBytes}
 use Rattle.fdt_bytes.specs.Padding.{padded, roundUp}
@@ -10,7 +9,7 @@ use Rattle.fdt_bytes.proofs.BigEndian.{length-bigEndian, length-cells}
 use Rattle.fdt_bytes.proofs.Padding.{length-padded}
 use Rattle.fdt_strings.specs.Entries.{entry}
 use Rattle.fdt_strings.proofs.Entries.{length-entry}
-use Rattle.fdt_format.specs.Tokens.{beginToken, propertyToken, finalToken, beginBytes, propertyBytes, endBytes, finalBytes}
+use Rattle.fdt_format.specs.Tokens.{beginToken, endToken, propertyToken, finalToken, beginBytes, propertyBytes, propertySize, endBytes, finalBytes}
 
 -- 4 + (length + 1 rounded up)
 pub length-begin : (name : List ℕ) → length (beginBytes name) ≡ 4 + roundUp 4 (length name + 1)
@@ -21,7 +20,7 @@ length-begin name =
     ∙ ap (λ (n : ℕ). 4 + n) (length-padded 4 (entry name) ∙ ap (roundUp 4) (length-entry name))
 
 -- 12 + (length rounded up)
-pub length-property : (offset : ℕ) (value : List ℕ) → length (propertyBytes offset value) ≡ 12 + roundUp 4 (length value)
+pub length-property : (offset : ℕ) (value : List ℕ) → length (propertyBytes offset value) ≡ propertySize (length value)
 unfolding propertyBytes
 length-property offset value =
     let words = propertyToken ∷ length value ∷ offset ∷ [] in
@@ -31,7 +30,7 @@ length-property offset value =
 
 pub length-end : length endBytes ≡ 4
 unfolding endBytes
-length-end = length-bigEndian 4 2
+length-end = length-bigEndian 4 endToken
 
 -- 4 and the strings
 pub length-final : (strings : List ℕ) → length (finalBytes strings) ≡ 4 + length strings

@@ -6,7 +6,7 @@ use Rattle.fdt_bytes.specs.Padding.{roundUp}
 use Rattle.fdt_strings.specs.declared.Found.{Found}
 use Rattle.fdt_strings.specs.declared.Found.the-variants.{At, Nothing}
 use Rattle.fdt_strings.specs.Entries.{firstFrom, joined, NoZero}
-use Rattle.fdt_format.specs.Description.{Property, _≔_, Reservation, reserved, Description}
+use Rattle.fdt_format.specs.Description.{_≔_, Reservation, reserved, Description}
 use Rattle.fdt_format.specs.Events.{Event, begins, has, ends, events}
 use Rattle.fdt_header.specs.Header.{structureStart, reservationBytes, headerBytes}
 use Rattle.fdt_format.specs.Tokens.{beginBytes, propertyBytes, propertySize, endBytes, finalBytes}

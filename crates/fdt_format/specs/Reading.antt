@@ -8,7 +8,7 @@ use lib.ListN.{length, take, drop}
 use Rattle.fdt_bytes.specs.BigEndian.{wordAt, wideAt}
 use Rattle.fdt_format.specs.declared.Areas.{Areas}
 use Rattle.fdt_format.specs.declared.Entry.{Entry}
-use Rattle.fdt_format.specs.Description.{Property, _≔_, Nodes, Reservation, reserved, Description}
+use Rattle.fdt_format.specs.Description.{_≔_, Nodes, Reservation, reserved, Description}
 use Rattle.fdt_format.specs.Events.{Event, begins, has, ends, nodesOf}
 use Rattle.fdt_header.specs.Header.{magic, version, lastCompatible, headerSize}
 use Rattle.fdt_format.specs.Tokens.{beginToken, endToken}
