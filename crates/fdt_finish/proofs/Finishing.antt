@@ -50,7 +50,7 @@ module _ (w : Record) (lent : ℕ) (strings : List ℕ) where
   unfolding finishAnswer
   finish-exactly = exactly (finishRows w lent strings) finish-refusals
 
--- what the tests of an accepted finish tell
+-- what an accepted finish may rely on
 pub record Finishable (w : Record) (lent : ℕ) (strings : List ℕ) : Type 0 where
   pub unmarked : w .finished ≡ false
   pub depth : w .«node_depth» ≡ 0
@@ -78,7 +78,7 @@ finish-fits w lent strings e =
     }
 
 module _ (w : Record) (blob strings : List ℕ) where
-  -- the strings' end and the header, one after the other
+  -- what goes into the rest and then the header
   pub finished-by-parts : {words first second : List ℕ} → first ≡ splice (w .«blob_used») (finalBytes (usedStrings w strings)) blob → words ≡ headerWords (w .reservations) (w .«blob_used» + 4) (w .«strings_used») (w .«boot_cpuid_phys») → second ≡ splice 0 (cellBytes 4 words) first → second ≡ finishedBlob w blob strings
   unfolding finishedBlob headerBytes
   finished-by-parts {words} {first} {second} p e r = r ∙ ap (λ (l : List ℕ). splice 0 (cellBytes 4 l) first) e ∙ ap (splice 0 _) p

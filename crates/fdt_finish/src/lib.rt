@@ -28,7 +28,7 @@ pub fn set_boot_cpuid_phys(w: Record, boot_cpuid_phys: u32) -> Outcome
     Outcome { answer, after }
 }
 
-// The record that a finish leaves.
+// The record that an accepted finish leaves.
 fn after_finish(w: Record) -> Record
     requires { ⌜ w .«blob_used» + (4 + w .«strings_used») < 2 ^ 64 ⌝ }
     ensures { λ r. ⌜ r ≡ finishedRecord w ⌝ }
@@ -98,7 +98,7 @@ fn put_finish(w: Record, blob: &mut [u8], strings: &[u8])
     put_header(blob, &words);
 }
 
-// Finishes a blob.
+// Finishes a blob: word 9 and the strings go into the rest, and the header is rewritten.
 pub fn finish(w: Record, blob: &mut [u8], strings: &[u8]) -> Outcome
     ensures { λ r. ⌜ FinishOutcome w (now (blob .entry)) (now (strings .entry)) r (now (blob .exit)) ⌝ }
 {
@@ -113,7 +113,7 @@ pub fn finish(w: Record, blob: &mut [u8], strings: &[u8]) -> Outcome
     }
 }
 
-// The finished blob: the front of what is lent, or an empty part.
+// Shows the finished blob: the front of what is lent, or an empty part.
 pub fn show(w: Record, blob: &[u8]) -> &[u8]
     ensures { λ r. ⌜ now r ≡ shown w (now (blob .entry)) ⌝ }
 {

@@ -31,7 +31,7 @@ fn begin_size(name: &[u8]) -> usize
     4 + (stored + fdt_bytes::padding_of(stored, 4))
 }
 
-// The record that a begin leaves.
+// The record that an accepted begin leaves.
 fn after_begin(w: Record, name: &[u8]) -> Record
     requires { ⌜ w .«blob_used» ≤ blobCeiling ⌝ }
     requires { ⌜ w .«node_depth» ≤ mostDepth ⌝ }
@@ -78,7 +78,7 @@ fn put_begin(rest: &mut [u8], name: &[u8])
     fdt_bytes::align(&mut rest[len..], len, 4);
 }
 
-// Begins a node.
+// Begins a node: its bytes go into the rest of the blob, and its handle is the new depth.
 pub fn begin_node(w: Record, blob: &mut [u8], name: &[u8]) -> Begun
     ensures { λ r. ⌜ BeginOutcome w (now (blob .entry)) (now (name .entry)) r (now (blob .exit)) ⌝ }
 {
@@ -100,7 +100,7 @@ pub fn begin_node(w: Record, blob: &mut [u8], name: &[u8]) -> Begun
     }
 }
 
-// The record that an end leaves.
+// The record that an accepted end leaves.
 fn after_end(w: Record) -> Record
     requires { ⌜ w .«blob_used» ≤ blobCeiling ⌝ }
     requires { ⌜ 0 < w .«node_depth» ⌝ }
@@ -133,7 +133,7 @@ fn end_tests(w: Record, lent: usize, node: FdtWriterNode) -> Answer
     Answer::Done
 }
 
-// Ends the node that was begun last.
+// Ends the node that is open at the handle's depth.
 pub fn end_node(w: Record, blob: &mut [u8], node: FdtWriterNode) -> Outcome
     ensures { λ r. ⌜ EndOutcome w (now (blob .entry)) (node .0) r (now (blob .exit)) ⌝ }
 {

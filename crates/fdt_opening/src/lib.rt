@@ -85,7 +85,7 @@ fn write_mem_rsvmap(blob: &mut [u8], mem_reservations: &[u64])
     );
 }
 
-// The record of a refused opening.
+// The record that a refused opening hands back.
 fn closed() -> Record
     ensures { λ r. ⌜ r ≡ closedRecord ⌝ }
 {

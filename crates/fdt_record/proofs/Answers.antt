@@ -28,7 +28,7 @@ upon-same answer one other refused f = by (accepts answer) f
     by true f = f refl
     by false f = refl
 
--- An answer that was told, and what is left by it.
+-- A computed answer, and what the call leaves by it.
 module _ (a b : Answer) (told : a ≡ b) where
   -- of a buffer
   pub left-accepted : {A : Type 0} (accepted refused : A) → accepts a ≡ true → accepted ≡ upon b accepted refused

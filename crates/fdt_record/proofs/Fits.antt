@@ -1,4 +1,4 @@
--- What a record that fits tells: each test of misfit 17 failed, so its figures are in order.
+-- What follows where a test of misfit 17 fails: the figures are in their bounds.
 use mathlib.Core.Path.{_≡_, refl}
 use mathlib.Core.Bool.{Bool, true, false, not, _&&_, _||_, true≢false}
 use mathlib.Core.List.{List}

@@ -4,7 +4,7 @@ use mathlib.Core.Bool.{Bool, cond}
 use lib.Dec.{eqb}
 use Rattle.fdt_record.specs.declared.Record.{Record}
 
--- which figure is set, counted as they stand below, and to what
+-- which number or flag is set, by its place in the list below, and to what
 pub data Figure : Type 0 where
   number : ℕ → ℕ → Figure
   flag : ℕ → Bool → Figure

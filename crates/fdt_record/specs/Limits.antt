@@ -1,23 +1,23 @@
 -- The limits of document 01, "What the station lends".
 use Prim.Native.Nat.{ℕ, min}
 
--- of the blob, in bytes
+-- ceiling of the blob, in bytes
 abbrev pub blobCeiling : ℕ
 blobCeiling = 65536
 
--- of the strings, in bytes
+-- ceiling of the strings, in bytes
 abbrev pub stringsCeiling : ℕ
 stringsCeiling = 8192
 
--- of the phandles, in entries
+-- ceiling of the phandles, in entries
 abbrev pub phandlesCeiling : ℕ
 phandlesCeiling = 256
 
--- of reservations
+-- most reservations
 abbrev pub mostReservations : ℕ
 mostReservations = 64
 
--- of the depth
+-- greatest depth
 abbrev pub mostDepth : ℕ
 mostDepth = 64
 

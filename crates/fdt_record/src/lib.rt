@@ -76,7 +76,7 @@ pub enum Answer {
     StringRoom,
     // 16: the table has no room for a new value.
     PhandleRoom,
-    // 17: the record does not fit the lent buffers, or numbers that belong together do not.
+    // 17: the record does not fit the lent buffers, or lengths in the arguments do not add up.
     Misfit,
     // 18: the record is marked finished.
     Finished,

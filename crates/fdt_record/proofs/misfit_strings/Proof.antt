@@ -1,4 +1,4 @@
--- `misfit_strings` meets its contract: its tests are those of the definition, and the last used byte stands within the strings.
+-- `misfit_strings` meets its contract: its tests are those of the definition, and the last used byte is within the strings.
 use mathlib.Core.Path.{_≡_, sym, _∙_}
 use mathlib.Core.Bool.{false}
 use lib.ListN.{length}
