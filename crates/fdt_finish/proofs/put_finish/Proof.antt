@@ -1,7 +1,7 @@
 -- `put_finish` meets its contract: word 9 and the used strings in the rest, and the header in front.
 use native.Mathlib.Omega.{arith}
 use borrow.Author.Needs.{needs}
-use lib.ListN.{length, length-take, length-drop}
+use lib.ListN.{length-take, length-drop}
 use lib.Seq.{length-take-le}
 use Rattle.fdt_bytes.proofs.Splice.{lent}
 use Rattle.fdt_format.specs.Tokens.{finalBytes}

@@ -1,7 +1,6 @@
 -- `put_header` meets its contract: the first i words have been rewritten.
 use Prim.Native.Nat.{_-_}
 use native.Mathlib.Omega.{arith}
-use borrow.Author.Needs.{needs}
 use lib.ListN.{length}
 use Rattle.fdt_bytes.proofs.Cells.{Written, written-none, written-all}
 use Rattle.fdt_finish.proofs.Finishing.{word-more}

@@ -1,13 +1,13 @@
 -- `after_begin` meets its contract: the size of the beginning is that of its bytes.
 use mathlib.Core.Path.{ap}
+use mathlib.Core.Bool.{false}
 use Prim.Native.Nat.{ℕ, _+_}
 use native.Mathlib.Omega.{arith}
 use borrow.Author.Needs.{needs}
-use Rattle.fdt_bytes.proofs.Padding.{padding-small}
 use lib.Dec.{lit<}
 use lib.ListN.{length}
+use Rattle.fdt_bytes.proofs.Padding.{padding-small}
 use Rattle.fdt_record.specs.Fields.{withUsedBlob, withDepth, withEnded}
-use mathlib.Core.Bool.{false}
 use Rattle.fdt_nodes.specs.Begin.{begunRecord}
 use Rattle.fdt_nodes.proofs.Begin.{begin-parts}
 use Rattle.fdt_nodes.proofs.after_begin.Statement.{statement}

@@ -1,5 +1,5 @@
 -- `put_begin` meets its contract: the word, the stored name and the padding, each where the one before ended.
-use Prim.Native.Nat.{ℕ, _+_, _≤_}
+use Prim.Native.Nat.{_+_, _≤_}
 use lib.ListN.{length, length-take, length-drop}
 use Rattle.fdt_bytes.specs.Padding.{padding, zeros}
 use Rattle.fdt_bytes.proofs.Splice.{lent}

@@ -7,7 +7,6 @@ use Rattle.fdt_record.specs.Answers.{accepts}
 use Rattle.fdt_record.proofs.Answers.{accepts-done}
 use Rattle.fdt_opening.proofs.Opening.{OpeningFits, opened-fits, refused-outcome, accepted-outcome}
 use borrow.Author.Needs.{needs}
-use native.Mathlib.Omega.{arith}
 use Rattle.fdt_opening.proofs.open.Statement.{statement}
 use Rattle.fdt_opening.proofs.open.Tie as tie
 
