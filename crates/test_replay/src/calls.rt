@@ -1,178 +1,87 @@
-// The writer's calls, with what a line gives them.
-use crate::changes;
-use crate::told;
-use crate::verbs;
+// The writer's calls that are about no property, with what a line gives them.
+use crate::desk::Desk;
+use crate::desk::answered;
+use crate::desk::within;
+use crate::desk::within_table;
 use fdt_nodes::FdtWriterNode;
-use fdt_record::Answer;
 use fdt_writer::Answered;
 use fdt_writer::FdtWriter;
-use fdt_writer::NodeAnswered;
 use text_lines::numbers;
 use text_lines::spelling;
 
-// Opens a writer: without reservations, or with those of the line.
-fn opened(verb: usize, line: &[u8], blob: &mut [u8], strings: &[u8], phandles: &[u32]) -> Answered {
-    if verb == verbs::NEW {
-        return FdtWriter::new(blob, strings, phandles);
-    }
+// Opens a writer without reservations.
+pub fn new(mut d: Desk) -> Desk {
+    let mut blob = d.blob;
+    let strings = d.strings;
+    let phandles = d.phandles;
+    let b = within(d.blob_lent, &blob);
+    let s = within(d.strings_lent, &strings);
+    let p = within_table(d.phandles_lent, &phandles);
+    let a = FdtWriter::new(&mut blob[..b], &strings[..s], &phandles[..p]);
+    d.blob = blob;
+    answered(d, a)
+}
+
+// Opens a writer with the reservations of the line.
+pub fn new_with_mem_reserv(mut d: Desk, line: &[u8]) -> Desk {
     let mut pairs = [0; 136];
     let n = numbers::numbers(line, 1, &mut pairs);
-    FdtWriter::new_with_mem_reserv(blob, strings, phandles, &pairs[..n])
+    let mut blob = d.blob;
+    let strings = d.strings;
+    let phandles = d.phandles;
+    let b = within(d.blob_lent, &blob);
+    let s = within(d.strings_lent, &strings);
+    let p = within_table(d.phandles_lent, &phandles);
+    let a = FdtWriter::new_with_mem_reserv(
+        &mut blob[..b],
+        &strings[..s],
+        &phandles[..p],
+        &pairs[..n],
+    );
+    d.blob = blob;
+    answered(d, a)
 }
 
-// A call that is about no property.
-fn plain(w: FdtWriter, verb: usize, line: &[u8], blob: &mut [u8], strings: &[u8]) -> Answered {
-    match verb {
-        verbs::SET_BOOT_CPUID_PHYS => w.set_boot_cpuid_phys(numbers::cell(line, 1)),
-        verbs::END_NODE => w.end_node(blob, FdtWriterNode(numbers::number(line, 1) as usize)),
-        _ => w.finish(blob, strings),
-    }
-}
-
-// A property of one number, or of none.
-fn single(
-    w: FdtWriter,
-    verb: usize,
-    line: &[u8],
-    name: &[u8],
-    blob: &mut [u8],
-    strings: &mut [u8],
-) -> Answered {
-    match verb {
-        verbs::PROPERTY_NULL => w.property_null(blob, strings, name),
-        verbs::PROPERTY_U32 => w.property_u32(blob, strings, name, numbers::cell(line, 2)),
-        _ => w.property_u64(blob, strings, name, numbers::number(line, 2)),
-    }
-}
-
-// A property of bytes or strings.
-fn spelled(
-    w: FdtWriter,
-    verb: usize,
-    line: &[u8],
-    name: &[u8],
-    blob: &mut [u8],
-    strings: &mut [u8],
-) -> Answered {
-    let mut space = io::large_buffer();
-    let k = spelling::word(line, 2, &mut space);
-    let val = &space[..k];
-    match verb {
-        verbs::PROPERTY => w.property(blob, strings, name, val),
-        verbs::PROPERTY_STRING => w.property_string(blob, strings, name, val),
-        _ => {
-            let mut lengths = [0; 64];
-            let n = numbers::lengths(line, 3, &mut lengths);
-            w.property_string_list(blob, strings, name, val, &lengths[..n])
-        }
-    }
-}
-
-// A property of numbers.
-fn listed(
-    w: FdtWriter,
-    verb: usize,
-    line: &[u8],
-    name: &[u8],
-    blob: &mut [u8],
-    strings: &mut [u8],
-) -> Answered {
-    if verb == verbs::PROPERTY_ARRAY_U32 {
-        let mut cells = [0; 1_024];
-        let n = numbers::cells(line, 2, &mut cells);
-        return w.property_array_u32(blob, strings, name, &cells[..n]);
-    }
-    let mut wide = [0; 1_024];
-    let n = numbers::numbers(line, 2, &mut wide);
-    w.property_array_u64(blob, strings, name, &wide[..n])
-}
-
-// A property.
-fn property(
-    w: FdtWriter,
-    verb: usize,
-    line: &[u8],
-    blob: &mut [u8],
-    strings: &mut [u8],
-) -> Answered {
-    let mut space = io::buffer();
-    let k = spelling::word(line, 1, &mut space);
-    let name = &space[..k];
-    match verb {
-        verbs::PROPERTY_NULL | verbs::PROPERTY_U32 | verbs::PROPERTY_U64 => {
-            single(w, verb, line, name, blob, strings)
-        }
-        verbs::PROPERTY_ARRAY_U32 | verbs::PROPERTY_ARRAY_U64 => {
-            listed(w, verb, line, name, blob, strings)
-        }
-        _ => spelled(w, verb, line, name, blob, strings),
-    }
-}
-
-// Makes a call that hands out no handle; a line that asks for none changes the buffers at most.
-fn answered(
-    w: FdtWriter,
-    verb: usize,
-    line: &[u8],
-    blob: &mut [u8],
-    strings: &mut [u8],
-    phandles: &mut [u32],
-) -> Answered {
-    match verb {
-        verbs::NEW | verbs::NEW_WITH_MEM_RESERV => opened(verb, line, blob, strings, phandles),
-        verbs::SET_BOOT_CPUID_PHYS | verbs::END_NODE | verbs::FINISH => {
-            plain(w, verb, line, blob, strings)
-        }
-        verbs::PROPERTY_PHANDLE => w.property_phandle(
-            blob,
-            strings,
-            phandles,
-            numbers::cell(line, 1),
-        ),
-        verbs::PROPERTY..=verbs::PROPERTY_ARRAY_U64 => property(w, verb, line, blob, strings),
-        _ => {
-            changes::run(verb, line, blob, strings, phandles);
-            Answered {
-                answer: Answer::Done,
-                writer: w,
-            }
-        }
-    }
-}
-
-// An answer without a handle.
-fn alone(a: Answered) -> NodeAnswered {
-    let answer = a.answer;
-    let writer = a.writer;
-    NodeAnswered {
-        answer,
-        handle: FdtWriterNode(0),
-        writer,
-    }
+// Sets the boot processor's number.
+pub fn set_boot_cpuid_phys(d: Desk, n: u32) -> Desk {
+    let w = d.writer;
+    answered(d, w.set_boot_cpuid_phys(n))
 }
 
 // Begins a node.
-fn begun(w: FdtWriter, line: &[u8], blob: &mut [u8]) -> NodeAnswered {
+pub fn begin_node(mut d: Desk, line: &[u8]) -> Desk {
     let mut name = io::buffer();
     let n = spelling::word(line, 1, &mut name);
-    w.begin_node(blob, &name[..n])
+    let mut blob = d.blob;
+    let b = within(d.blob_lent, &blob);
+    let w = d.writer;
+    let a = w.begin_node(&mut blob[..b], &name[..n]);
+    let answer = a.answer;
+    let writer = a.writer;
+    d.blob = blob;
+    d = answered(d, Answered { answer, writer });
+    d.handle = a.handle.0;
+    d
 }
 
-// Makes the call that a line asks for with the buffers that are lent, and tells of it.
-pub fn run(
-    w: FdtWriter,
-    aloud: bool,
-    verb: usize,
-    line: &[u8],
-    blob: &mut [u8],
-    strings: &mut [u8],
-    phandles: &mut [u32],
-) -> FdtWriter {
-    let a = if verb == verbs::BEGIN_NODE {
-        begun(w, line, blob)
-    } else {
-        alone(answered(w, verb, line, blob, strings, phandles))
-    };
-    told::line(a, aloud, verb, line, blob, strings, phandles);
-    a.writer
+// Ends a node by the number of a handle.
+pub fn end_node(mut d: Desk, handle: usize) -> Desk {
+    let mut blob = d.blob;
+    let b = within(d.blob_lent, &blob);
+    let w = d.writer;
+    let a = w.end_node(&mut blob[..b], FdtWriterNode(handle));
+    d.blob = blob;
+    answered(d, a)
+}
+
+// Finishes the blob.
+pub fn finish(mut d: Desk) -> Desk {
+    let mut blob = d.blob;
+    let strings = d.strings;
+    let b = within(d.blob_lent, &blob);
+    let s = within(d.strings_lent, &strings);
+    let w = d.writer;
+    let a = w.finish(&mut blob[..b], &strings[..s]);
+    d.blob = blob;
+    answered(d, a)
 }

@@ -1,25 +1,11 @@
-// Changes of the buffers themselves: bytes ee, by which what no call wrote is known, and bytes that a line gives.
+// What a line changes for the calls after it: the arrays, how much of them is lent, the record, how lines are told.
+use crate::desk::Desk;
+use crate::fields;
+use crate::room;
 use crate::verbs;
+use fdt_writer::FdtWriter;
 use text_lines::numbers;
 use text_lines::spelling;
-
-// Fills a buffer.
-fn mark(s: &mut [u8]) {
-    let mut i = 0;
-    while i < s.len() {
-        s[i] = 0xee;
-        i += 1;
-    }
-}
-
-// Fills a table.
-fn mark_table(t: &mut [u32]) {
-    let mut i = 0;
-    while i < t.len() {
-        t[i] = 0xeeee_eeee;
-        i += 1;
-    }
-}
 
 // Writes the line's bytes from its place on.
 fn put(s: &mut [u8], line: &[u8]) {
@@ -37,17 +23,55 @@ fn put_table(t: &mut [u32], line: &[u8]) {
     }
 }
 
-// What a line changes in the buffers.
-pub fn run(verb: usize, line: &[u8], blob: &mut [u8], strings: &mut [u8], phandles: &mut [u32]) {
+// Puts bytes or numbers into an array.
+fn filled(mut d: Desk, verb: usize, line: &[u8]) -> Desk {
+    let mut blob = d.blob;
+    let mut strings = d.strings;
+    let mut phandles = d.phandles;
     match verb {
-        verbs::BUFFERS => {
-            mark(blob);
-            mark(strings);
-            mark_table(phandles);
+        verbs::PUT_BLOB => put(&mut blob, line),
+        verbs::PUT_STRINGS => put(&mut strings, line),
+        _ => put_table(&mut phandles, line),
+    }
+    d.blob = blob;
+    d.strings = strings;
+    d.phandles = phandles;
+    d
+}
+
+// Changes how much of the arrays is lent.
+fn lent(mut d: Desk, line: &[u8]) -> Desk {
+    d.blob_lent = numbers::number(line, 1) as usize;
+    d.strings_lent = numbers::number(line, 2) as usize;
+    d.phandles_lent = numbers::number(line, 3) as usize;
+    d
+}
+
+// Fills the arrays with bytes ee, which show what no call wrote.
+fn marked(mut d: Desk) -> Desk {
+    let blob = room::blob();
+    let strings = room::strings();
+    let phandles = [0xeeee_eeee; 320];
+    d.blob = blob;
+    d.strings = strings;
+    d.phandles = phandles;
+    d
+}
+
+// The desk after a line that makes no call.
+pub fn run(d: Desk, verb: usize, line: &[u8]) -> Desk {
+    let mut next = d;
+    match verb {
+        verbs::BUFFERS => next = marked(lent(d, line)),
+        verbs::LEND => next = lent(d, line),
+        verbs::PUT_BLOB | verbs::PUT_STRINGS | verbs::PUT_PHANDLES => next = filled(d, verb, line),
+        verbs::SET => {
+            let w = FdtWriter(fields::set(d.writer.0, line));
+            next.writer = w;
         }
-        verbs::PUT_BLOB => put(blob, line),
-        verbs::PUT_STRINGS => put(strings, line),
-        verbs::PUT_PHANDLES => put_table(phandles, line),
+        verbs::ALOUD => next.aloud = true,
+        verbs::QUIET => next.aloud = false,
         _ => {}
     }
+    next
 }

@@ -1,63 +1,44 @@
-// The lines of a list in turn, over a writer and the parts of the buffers that are lent to it.
-ghost use Rattle.io.specs.Counts.{Counts};
+// The lines of a list in turn.
 use crate::calls;
-use crate::state;
-use crate::state::State;
+use crate::changes;
+use crate::desk;
+use crate::desk::Desk;
+use crate::properties;
+use crate::told;
 use crate::verbs;
+use text_lines::numbers;
 
-// How much of a buffer a line is lent: a call or a look so many bytes, or all; a change all.
-fn within(verb: usize, n: usize, s: &[u8]) -> usize
-    ensures { λ r. ⌜ Counts r (now (s .entry)) ⌝ }
-{
-    if verbs::BUFFERS <= verb {
-        return s.len();
+// The desk after a line.
+fn after(d: Desk, verb: usize, line: &[u8]) -> Desk {
+    match verb {
+        verbs::NEW => calls::new(d),
+        verbs::NEW_WITH_MEM_RESERV => calls::new_with_mem_reserv(d, line),
+        verbs::SET_BOOT_CPUID_PHYS => calls::set_boot_cpuid_phys(d, numbers::cell(line, 1)),
+        verbs::BEGIN_NODE => calls::begin_node(d, line),
+        verbs::END_NODE => calls::end_node(d, numbers::number(line, 1) as usize),
+        verbs::FINISH => calls::finish(d),
+        verbs::PROPERTY_PHANDLE => properties::property_phandle(d, numbers::cell(line, 1)),
+        verbs::PROPERTY..=verbs::PROPERTY_ARRAY_U64 => properties::run(d, verb, line),
+        _ => changes::run(d, verb, line),
     }
-    if n < s.len() { n } else { s.len() }
 }
 
-// How much of a table: so many entries, or all.
-fn within_table(verb: usize, n: usize, t: &[u32]) -> usize
-    ensures { λ r. ⌜ Counts r (now (t .entry)) ⌝ }
-{
-    if verbs::BUFFERS <= verb {
-        return t.len();
-    }
-    if n < t.len() { n } else { t.len() }
-}
-
-// Runs a line.
-fn run(
-    before: State,
-    line: &[u8],
-    blob: &mut [u8],
-    strings: &mut [u8],
-    phandles: &mut [u32],
-) -> State {
+// Runs a line, and tells of it; `aloud` and `quiet` themselves are not told.
+fn run(d: Desk, line: &[u8]) -> Desk {
     let verb = verbs::asked(line);
-    let mut s = state::given(before, verb, line);
-    let b = within(verb, s.blob, blob);
-    let t = within(verb, s.strings, strings);
-    let p = within_table(verb, s.phandles, phandles);
-    let w = calls::run(
-        s.writer,
-        s.aloud,
-        verb,
-        line,
-        &mut blob[..b],
-        &mut strings[..t],
-        &mut phandles[..p],
-    );
-    s.writer = w;
-    s
+    let next = after(d, verb, line);
+    if verb < verbs::ALOUD || verb == verbs::REMARK {
+        told::line(next, verb, line);
+    }
+    next
 }
 
 // Runs each line of a list.
-pub fn each(lines: &[u8], blob: &mut [u8], strings: &mut [u8], phandles: &mut [u32]) {
-    let mut s = state::closed();
-    let mut start = 0;
-    while start < lines.len() {
-        let line = text_words::piece(lines, start, b'\n');
-        s = run(s, line, blob, strings, phandles);
-        start = text_words::next(lines, start, b'\n');
+pub fn each(lines: &[u8]) {
+    let mut d = desk::closed();
+    let mut at = 0;
+    while at < lines.len() {
+        d = run(d, text_words::piece(lines, at, b'\n'));
+        at = text_words::next(lines, at, b'\n');
     }
 }

@@ -1,7 +1,7 @@
 // What a line asks to see.
+use crate::desk::Desk;
 use crate::fields;
 use crate::verbs;
-use fdt_writer::FdtWriter;
 use text_lines::numbers;
 use text_lines::said;
 use text_lines::said::Style;
@@ -19,23 +19,48 @@ fn shown(part: &[u8], aloud: bool) {
     said::bytes(part, Style::Words, true);
 }
 
-// Writes what a line asks to see of a writer and the buffers that are lent to it.
-pub fn run(
-    w: FdtWriter,
-    aloud: bool,
-    verb: usize,
-    line: &[u8],
-    blob: &[u8],
-    strings: &[u8],
-    phandles: &[u32],
-) {
-    let from = numbers::number(line, 1) as usize;
-    let to = numbers::number(line, 2) as usize;
+// The shown part of the lent blob.
+fn show(d: Desk) {
+    let blob = d.blob;
+    let w = d.writer;
+    shown(w.show(text_words::part(&blob, 0, d.blob_lent)), d.aloud);
+}
+
+// The lesser of two.
+fn least(a: usize, b: usize) -> usize {
+    if a < b { a } else { b }
+}
+
+// A part of the lent blob, strings or phandles.
+fn part(d: Desk, verb: usize, from: usize, to: usize) {
+    let blob = d.blob;
+    let strings = d.strings;
+    let phandles = d.phandles;
     match verb {
-        verbs::SHOW => shown(w.show(blob), aloud),
-        verbs::BLOB => said::bytes(text_words::part(blob, from, to), Style::Words, aloud),
-        verbs::STRINGS => said::bytes(text_words::part(strings, from, to), Style::Letters, aloud),
-        verbs::PHANDLES => said::cells(phandles, from, to, aloud),
-        _ => fields::look(w.0, verb, aloud),
+        verbs::BLOB => said::bytes(
+            text_words::part(&blob, from, least(to, d.blob_lent)),
+            Style::Words,
+            d.aloud,
+        ),
+        verbs::STRINGS => said::bytes(
+            text_words::part(&strings, from, least(to, d.strings_lent)),
+            Style::Letters,
+            d.aloud,
+        ),
+        _ => said::cells(&phandles, from, least(to, d.phandles_lent), d.aloud),
+    }
+}
+
+// Writes what a line asks to see.
+pub fn run(d: Desk, verb: usize, line: &[u8]) {
+    match verb {
+        verbs::SHOW => show(d),
+        verbs::RECORD | verbs::FIELDS => fields::look(d.writer.0, verb, d.aloud),
+        _ => part(
+            d,
+            verb,
+            numbers::number(line, 1) as usize,
+            numbers::number(line, 2) as usize,
+        ),
     }
 }

@@ -1,16 +1,17 @@
-// Runs a list of the writer's calls, and tells what each answered and left: docs/REPLAY.md has the list's format.
+// Runs a list of the writer's calls, and writes what each answered and left: docs/REPLAY.md has the list's format.
 mod calls;
 mod changes;
+mod desk;
 mod fields;
 mod list;
 mod looks;
+mod properties;
 mod room;
-mod state;
 mod sums;
 mod told;
 mod verbs;
 
-// Reads the list, and runs it over buffers that are longer than their ceilings.
+// Reads the list and runs it.
 fn main() {
     let mut input = room::input();
     let n = io::read_full(libc::STDIN_FILENO, &mut input);
@@ -18,8 +19,5 @@ fn main() {
         text_lines::said::text(b"the list is longer than 1048575 bytes: nothing was run\n");
         return;
     }
-    let mut blob = room::blob();
-    let mut strings = room::strings();
-    let mut phandles = [0xeeee_eeee; 320];
-    list::each(&input[..n], &mut blob, &mut strings, &mut phandles);
+    list::each(&input[..n]);
 }

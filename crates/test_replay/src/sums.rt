@@ -3,7 +3,7 @@
 // The check value of no bytes.
 const EMPTY: u64 = 14_695_981_039_346_656_037;
 
-// A number times 1099511628211 = 2^40 + 435, without what is above 64 bits.
+// A number times 1099511628211 = 2^40 + 435, without the bits above 64.
 fn times(n: u64) -> u64 {
     let low = n % 0x1_0000_0000 * 435;
     let high = (n >> 32) * 435;
@@ -24,22 +24,22 @@ fn with_cell(sum: u64, n: u32) -> u64 {
     with(third, (n % 256) as u8)
 }
 
-// The check value of bytes.
-pub fn bytes(s: &[u8]) -> u64 {
+// The check value of so many bytes at the front of a buffer, or of all.
+pub fn bytes(s: &[u8], most: usize) -> u64 {
     let mut sum = EMPTY;
     let mut i = 0;
-    while i < s.len() {
+    while i < s.len() && i < most {
         sum = with(sum, s[i]);
         i += 1;
     }
     sum
 }
 
-// The check value of a table's bytes.
-pub fn table(t: &[u32]) -> u64 {
+// The same of so many entries of a table.
+pub fn table(t: &[u32], most: usize) -> u64 {
     let mut sum = EMPTY;
     let mut i = 0;
-    while i < t.len() {
+    while i < t.len() && i < most {
         sum = with_cell(sum, t[i]);
         i += 1;
     }

@@ -1,29 +1,28 @@
 // What is written of a line.
+use crate::desk::Desk;
 use crate::fields;
 use crate::looks;
 use crate::sums;
 use crate::verbs;
-use fdt_writer::NodeAnswered;
 use text_lines::said;
 
+// The check values of what a call was lent.
+fn checks(d: Desk) -> [u64; 3] {
+    let blob = d.blob;
+    let strings = d.strings;
+    let phandles = d.phandles;
+    [
+        sums::bytes(&blob, d.blob_lent),
+        sums::bytes(&strings, d.strings_lent),
+        sums::table(&phandles, d.phandles_lent),
+    ]
+}
+
 // A report: what a call answered, the record's fields, and the check values of what it was lent.
-fn report(
-    a: NodeAnswered,
-    number: u64,
-    handle: u64,
-    blob: &[u8],
-    strings: &[u8],
-    phandles: &[u32],
-) {
-    let w = a.writer;
-    said::numbers(&[number, handle], false);
-    said::numbers(&fields::apart(w.0), true);
-    let lent = [
-        sums::bytes(blob),
-        sums::bytes(strings),
-        sums::table(phandles),
-    ];
-    said::numbers(&lent, true);
+fn report(d: Desk) {
+    said::numbers(&[d.number as u64, d.handle as u64], false);
+    said::numbers(&fields::apart(d.writer.0), true);
+    said::numbers(&checks(d), true);
 }
 
 // What a call answered, and the handle if it begins a node.
@@ -36,19 +35,7 @@ fn answer(verb: usize, number: u64, handle: u64) {
     }
 }
 
-// What a call answered, aloud or in a report.
-fn call(a: NodeAnswered, aloud: bool, verb: usize, blob: &[u8], strings: &[u8], phandles: &[u32]) {
-    let given = a.answer;
-    let number = fdt_record::number(given) as u64;
-    let handle = a.handle.0 as u64;
-    if aloud {
-        answer(verb, number, handle);
-    } else {
-        report(a, number, handle, blob, strings, phandles);
-    }
-}
-
-// Writes a line again, if it is told aloud.
+// Writes a line again, if lines are told aloud.
 fn again(aloud: bool, verb: usize, line: &[u8]) {
     if aloud {
         said::text(line);
@@ -58,23 +45,19 @@ fn again(aloud: bool, verb: usize, line: &[u8]) {
     }
 }
 
-// Writes what a line, with what its call answered, is to tell.
-pub fn line(
-    a: NodeAnswered,
-    aloud: bool,
-    verb: usize,
-    line: &[u8],
-    blob: &[u8],
-    strings: &[u8],
-    phandles: &[u32],
-) {
-    again(aloud, verb, line);
-    if verb < verbs::SHOW {
-        call(a, aloud, verb, blob, strings, phandles);
-    } else if verb < verbs::BUFFERS {
-        looks::run(a.writer, aloud, verb, line, blob, strings, phandles);
-    } else if !aloud {
-        return;
+// Writes what is to be told of a line that was run.
+pub fn line(d: Desk, verb: usize, line: &[u8]) {
+    again(d.aloud, verb, line);
+    if verbs::SHOW <= verb {
+        if verb < verbs::BUFFERS {
+            looks::run(d, verb, line);
+        }
+    } else if d.aloud {
+        answer(verb, d.number as u64, d.handle as u64);
+    } else {
+        report(d);
     }
-    said::text(b"\n");
+    if d.aloud || verb < verbs::BUFFERS {
+        said::text(b"\n");
+    }
 }

@@ -1,10 +1,9 @@
-// Call lists: what a line asks for and gives its call, and what is told of a wrong one. docs/CALLS.md has their form.
+// Call lists: what a line asks for, the values that it gives, and what is said of a line that is wrong or refused.
 pub mod given;
+pub mod input;
+pub mod line;
 mod numbers;
 pub mod room;
-mod scan;
 mod texts;
 pub mod told;
-mod values;
 pub mod verbs;
-mod wrong;

@@ -1,131 +1,96 @@
-// The numbers of a line: decimal, or hexadecimal after 0x; the bytes of a line, in two hexadecimal digits each.
-use crate::scan;
-use crate::verbs;
+// The numbers of a line, byte by byte.
+use text_words::number;
 
-// A number, and whether it is one.
-pub struct Parsed {
+// Between two numbers, and in a comment; the other states are those of a number.
+const GAP: u8 = 6;
+
+const COMMENT: u8 = 7;
+
+// The state; the last number and the one before it; how many have begun.
+pub struct Numbers {
+    pub state: u8,
     pub value: u64,
-    pub right: bool,
+    pub before: u64,
+    pub count: usize,
 }
 
-// A number that is none.
-fn none() -> Parsed {
-    Parsed {
+// No number yet.
+pub fn none() -> Numbers {
+    Numbers {
+        state: GAP,
         value: 0,
-        right: false,
+        before: 0,
+        count: 0,
     }
 }
 
-// A number.
-fn number(value: u64) -> Parsed {
-    Parsed { value, right: true }
+// Whether a byte stands between words.
+pub fn blank(b: u8) -> bool {
+    b == b' ' || b == b'\t'
 }
 
-// A hexadecimal digit's number; 16 for any other byte.
-fn digit(b: u8) -> u8 {
+// The numbers in another state.
+fn at(v: Numbers, state: u8) -> Numbers {
+    let mut next = v;
+    next.state = state;
+    next
+}
+
+// The numbers with one byte more of the last; `most` is the largest that the call takes.
+fn longer(v: Numbers, b: u8, most: u64) -> Numbers {
+    let n = number::longer(v.value, v.state, b);
+    if most < n.value {
+        return at(v, number::WRONG);
+    }
+    let mut next = v;
+    next.value = n.value;
+    next.state = n.state;
+    next
+}
+
+// One number more, with its first byte.
+fn begun(v: Numbers, b: u8, most: u64) -> Numbers {
+    let next = Numbers {
+        state: number::NONE,
+        value: 0,
+        before: v.value,
+        count: std::num::wrapping_add_usize(v.count, 1),
+    };
+    longer(next, b, most)
+}
+
+// A byte between two numbers.
+fn in_gap(v: Numbers, b: u8, most: u64) -> Numbers {
     match b {
-        b'0'..=b'9' => b - b'0',
-        b'a'..=b'f' => b - b'a' + 10,
-        b'A'..=b'F' => b - b'A' + 10,
-        _ => 16,
+        b' ' | b'\t' => v,
+        b'#' => at(v, COMMENT),
+        _ => begun(v, b, most),
     }
 }
 
-// A number with a hexadecimal digit more.
-fn longer_hex(n: u64, d: u64) -> Parsed {
-    if 15 < d {
-        return none();
-    }
-    if 0x0fff_ffff_ffff_ffff < n {
-        return none();
-    }
-    number(n * 16 + d)
-}
-
-// A number with a decimal digit more.
-fn longer(n: u64, d: u64) -> Parsed {
-    if 9 < d {
-        return none();
-    }
-    if 1_844_674_407_370_955_161 < n {
-        return none();
-    }
-    let tens = n * 10;
-    if 18_446_744_073_709_551_615 - d < tens {
-        return none();
-    }
-    number(tens + d)
-}
-
-// What is found with a digit more.
-fn more(found: Parsed, b: u8, hex: bool) -> Parsed {
-    let d = digit(b) as u64;
-    if !found.right {
-        none()
-    } else if hex {
-        longer_hex(found.value, d)
-    } else {
-        longer(found.value, d)
+// The numbers with one byte more of the line.
+pub fn step(v: Numbers, b: u8, most: u64) -> Numbers {
+    let state = v.state;
+    match state {
+        GAP => in_gap(v, b, most),
+        COMMENT | number::WRONG => v,
+        _ => {
+            if !blank(b) {
+                return longer(v, b, most);
+            }
+            at(
+                v,
+                if number::whole(state) {
+                    GAP
+                } else {
+                    number::WRONG
+                },
+            )
+        }
     }
 }
 
-// The number that a word spells from a place on.
-fn spelled(word: &[u8], from: usize, hex: bool) -> Parsed {
-    let mut found = number(0);
-    let mut i = from;
-    while i < word.len() {
-        found = more(found, word[i], hex);
-        i += 1;
-    }
-    found
-}
-
-// The byte that two hexadecimal digits spell.
-pub fn byte(word: &[u8]) -> Parsed {
-    if word.len() == 2 {
-        spelled(word, 0, true)
-    } else {
-        none()
-    }
-}
-
-// The number that a word spells.
-fn wide(word: &[u8]) -> Parsed {
-    if 2 < word.len() && scan::peek(word, 0) == b'0' && scan::peek(word, 1) == b'x' {
-        spelled(word, 2, true)
-    } else {
-        spelled(word, 0, false)
-    }
-}
-
-// The number that a word spells in at most 32 bits.
-fn small(word: &[u8]) -> Parsed {
-    let n = wide(word);
-    if n.value <= 0xffff_ffff { n } else { none() }
-}
-
-// The number at a place, for a call: a byte, one of 4 bytes, or one of 8.
-pub fn read(line: &[u8], at: usize, verb: usize) -> Parsed {
-    let word = scan::word(line, at);
-    match verb {
-        verbs::BYTES => byte(word),
-        verbs::U64 | verbs::RESERVE => wide(word),
-        _ => small(word),
-    }
-}
-
-// The same without what is wrong.
-pub fn value(line: &[u8], at: usize, verb: usize) -> u64 {
-    let n = read(line, at, verb);
-    n.value
-}
-
-// A number without what is above 32 bits.
-pub fn low(n: u64) -> u32 {
-    (n % 0x1_0000_0000) as u32
-}
-
-// A number without what is above 8 bits.
-pub fn lowest(n: u64) -> u8 {
-    (n % 256) as u8
+// Whether a line can end here, behind a blank.
+pub fn whole(v: Numbers) -> bool {
+    v.state == GAP || v.state == COMMENT
 }

@@ -1,107 +1,143 @@
-// The strings of a line: any bytes between double quotes, with escapes.
-use crate::numbers;
-use crate::room::Text;
-use crate::scan;
+// The strings of a line in double quotes, or its bytes in two hexadecimal digits each, byte by byte.
+use text_words::number;
 
-// No byte: the string ends, or is wrong.
-const STOP: usize = 256;
+// Between two values.
+const GAP: u8 = 0;
 
-// A byte as a number of any size.
-fn code(b: u8) -> usize {
-    b as usize
+// In a string.
+const TEXT: u8 = 1;
+
+// Behind a backslash.
+const ESCAPE: u8 = 2;
+
+// Behind a value.
+const CLOSED: u8 = 3;
+
+const COMMENT: u8 = 4;
+
+const WRONG: u8 = 5;
+
+// Before the first hexadecimal digit of a byte.
+const HIGH: u8 = 6;
+
+// Before the second; the first is added.
+const LOW: u8 = 16;
+
+// The state; how many strings have begun, how many bytes they have, how many of them the last has, and the last byte.
+pub struct Texts {
+    pub state: u8,
+    pub count: usize,
+    pub bytes: usize,
+    pub length: usize,
+    pub byte: u8,
 }
 
-// The byte of two hexadecimal digits.
-fn pair(line: &[u8], at: usize) -> usize {
-    let n = numbers::byte(text_words::part(line, at, std::num::wrapping_add_usize(at, 2)));
-    if n.right {
-        code(numbers::lowest(n.value))
-    } else {
-        STOP
+// No value yet.
+pub fn none() -> Texts {
+    Texts {
+        state: GAP,
+        count: 0,
+        bytes: 0,
+        length: 0,
+        byte: 0,
     }
 }
 
-// The byte of an escape, after its backslash.
-fn escape(line: &[u8], at: usize) -> usize {
-    let b = scan::peek(line, at);
+// The same in another state.
+fn at(v: Texts, state: u8) -> Texts {
+    let mut next = v;
+    next.state = state;
+    next
+}
+
+// One byte more. Bytes and strings that no blob has room for are left out.
+fn put(v: Texts, b: u8, state: u8) -> Texts {
+    if v.bytes == 65_536 || 65_536 < v.count {
+        return at(v, state);
+    }
+    Texts {
+        state,
+        count: v.count,
+        bytes: std::num::wrapping_add_usize(v.bytes, 1),
+        length: std::num::wrapping_add_usize(v.length, 1),
+        byte: b,
+    }
+}
+
+// One value more.
+fn begun(v: Texts, state: u8) -> Texts {
+    Texts {
+        state,
+        count: std::num::wrapping_add_usize(v.count, 1),
+        bytes: v.bytes,
+        length: 0,
+        byte: v.byte,
+    }
+}
+
+// A hexadecimal digit of a byte.
+fn digit(v: Texts, b: u8, hex: bool) -> Texts {
+    let d = number::digit(b);
+    if 15 < d {
+        return at(v, WRONG);
+    }
+    if v.state < LOW {
+        return at(v, LOW | d);
+    }
+    put(v, v.state << 4 | d, if hex { CLOSED } else { TEXT })
+}
+
+// A byte between two values.
+fn in_gap(v: Texts, b: u8, hex: bool) -> Texts {
     match b {
-        b'"' | b'\\' => code(b),
-        b'n' => 10,
-        b't' => 9,
-        b'0' => 0,
-        b'x' => pair(line, scan::after(at)),
-        _ => STOP,
+        b' ' | b'\t' => v,
+        b'#' => at(v, COMMENT),
+        b'"' => begun(v, if hex { WRONG } else { TEXT }),
+        _ => {
+            if hex {
+                digit(begun(v, HIGH), b, hex)
+            } else {
+                at(v, WRONG)
+            }
+        }
     }
 }
 
-// The byte that is spelled at a place in a string.
-fn letter(line: &[u8], at: usize) -> usize {
-    let b = scan::peek(line, at);
+// A byte of a string.
+fn in_text(v: Texts, b: u8) -> Texts {
     match b {
-        b'\n' | b'"' => STOP,
-        b'\\' => escape(line, scan::after(at)),
-        _ => code(b),
+        b'"' => at(v, CLOSED),
+        b'\\' => at(v, ESCAPE),
+        _ => put(v, b, TEXT),
     }
 }
 
-// How many bytes of the line spell it.
-fn width(line: &[u8], at: usize) -> usize {
-    if scan::peek(line, at) != b'\\' {
-        1
-    } else if scan::peek(line, scan::after(at)) == b'x' {
-        4
-    } else {
-        2
+// A byte behind a backslash.
+fn in_escape(v: Texts, b: u8) -> Texts {
+    match b {
+        b'"' | b'\\' => put(v, b, TEXT),
+        b'n' => put(v, 10, TEXT),
+        b't' => put(v, 9, TEXT),
+        b'0' => put(v, 0, TEXT),
+        b'x' => at(v, HIGH),
+        _ => at(v, WRONG),
     }
 }
 
-// Where the next one is spelled.
-fn next(line: &[u8], at: usize) -> usize {
-    std::num::wrapping_add_usize(at, width(line, at))
-}
-
-// Where a string stops, from a place in it on: at its closing quote, or where it is wrong.
-fn stop(line: &[u8], from: usize) -> usize {
-    let mut at = from;
-    let mut k: usize = 0;
-    while k < 1_048_576 {
-        if letter(line, at) == STOP {
-            return at;
-        }
-        at = next(line, at);
-        k += 1;
-    }
-    at
-}
-
-// Whether a double quote stands at a place.
-fn quote(line: &[u8], at: usize) -> bool {
-    scan::peek(line, at) == b'"'
-}
-
-// Where the string at a place ends, with a blank behind it; `none` where there is no such string.
-pub fn end(line: &[u8], at: usize, none: usize) -> usize {
-    let close = stop(line, scan::after(at));
-    let end = scan::after(close);
-    if quote(line, at) && quote(line, close) && scan::parted(line, end) {
-        end
-    } else {
-        none
+// The values with one byte more of the line; `hex` where they are bytes.
+pub fn step(v: Texts, b: u8, hex: bool) -> Texts {
+    let state = v.state;
+    match state {
+        GAP => in_gap(v, b, hex),
+        TEXT => in_text(v, b),
+        ESCAPE => in_escape(v, b),
+        CLOSED => at(v, if b == b' ' || b == b'\t' { GAP } else { WRONG }),
+        COMMENT | WRONG => v,
+        _ => digit(v, b, hex),
     }
 }
 
-// Writes the bytes of the string at a place into a text behind so many: how many there are then.
-pub fn put(line: &[u8], from: usize, out: &mut Text, before: usize) -> usize {
-    let mut at = scan::after(from);
-    let mut n = before;
-    while n < 65_536 {
-        let c = letter(line, at);
-        if c == STOP {
-            return n;
-        }
-        out[n] = (c % 256) as u8;
-        at = next(line, at);
-        n += 1;
-    }
-    n
+// Whether a line can end here, behind a blank.
+pub fn whole(v: Texts) -> bool {
+    v.state == GAP || v.state == COMMENT
 }

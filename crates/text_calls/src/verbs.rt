@@ -1,5 +1,4 @@
-// What a line asks for, by its first word: the word's place in the list below.
-use crate::scan;
+// The calls of a list, by their place among the words below.
 
 pub const RESERVE: usize = 0;
 
@@ -27,24 +26,20 @@ pub const U64: usize = 10;
 // Any other word.
 pub const NO_CALL: usize = 11;
 
-// A line without a word, and the list's end.
+// No word, or a comment; also the end of the list.
 pub const BLANK: usize = 12;
 
-// What a word asks for.
-fn verb(word: &[u8]) -> usize {
+// The call that a word names.
+pub fn of(word: &[u8]) -> usize {
+    if word.len() == 0 {
+        return BLANK;
+    }
+    if word[0] == b'#' {
+        return BLANK;
+    }
     text_words::place(
         b"reserve boot phandle end begin null string strings bytes u32 u64",
         NO_CALL,
         word,
     )
-}
-
-// What a line asks for.
-pub fn asked(line: &[u8]) -> usize {
-    let at = scan::start(line, 0);
-    if scan::ended(line, at) {
-        BLANK
-    } else {
-        verb(scan::word(line, at))
-    }
 }

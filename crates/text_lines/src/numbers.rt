@@ -1,52 +1,66 @@
-// The numbers of a line.
+// The numbers of a line. A word that is no number of at most 64 bits counts as 0.
 ghost use Prim.Native.Nat.{_≤_};
-ghost use lib.ListN.{length};
 ghost use Rattle.io.specs.Counts.{Counts};
-use crate::spelling;
+use text_words::number;
 
-// Whether a word begins as a hexadecimal number does.
-fn hexadecimal(word: &[u8]) -> bool {
-    if word.len() < 3 {
-        return false;
-    }
-    word[0] == b'0' && word[1] == b'x'
+// Where reading stands: in which word, the word's value so far, and its state as a number.
+struct Word {
+    place: usize,
+    value: u64,
+    state: u8,
 }
 
-// Ten times a number, or sixteen times, and one digit more, without what is above 64 bits.
-fn digit(n: u64, hex: bool, d: u8) -> u64 {
-    let more = spelling::nibble(d) as u64;
-    if hex {
-        return n << 4 | more;
+// Before the first byte of a line.
+fn none() -> Word {
+    Word {
+        place: 0,
+        value: 0,
+        state: number::NONE,
     }
-    let tens = std::num::wrapping_add_u64(n << 3, n << 1);
-    std::num::wrapping_add_u64(tens, more)
 }
 
-// The number that a word spells in decimal, or after 0x in hexadecimal digits, modulo 2^64; 0 for an empty word.
-fn value(word: &[u8]) -> u64 {
-    let hex = hexadecimal(word);
+// The word with one byte more of the line.
+fn step(w: Word, b: u8) -> Word {
+    if b == b' ' {
+        return Word {
+            place: std::num::wrapping_add_usize(w.place, 1),
+            value: 0,
+            state: number::NONE,
+        };
+    }
+    let n = number::longer(w.value, w.state, b);
+    Word {
+        place: w.place,
+        value: n.value,
+        state: n.state,
+    }
+}
+
+// How many words there are from word `first` up to a place, or `most` if there are more.
+fn count(place: usize, first: usize, most: usize) -> usize
+    ensures { λ r. ⌜ r ≤ most ⌝ }
+{
+    if place < first {
+        return 0;
+    }
+    let before = place - first;
+    if before < most { before + 1 } else { most }
+}
+
+// Word k of a line as a number.
+pub fn number(line: &[u8], k: usize) -> u64 {
+    let mut w = none();
     let mut n = 0;
     let mut i = 0;
-    while i < word.len() {
-        n = digit(n, hex, word[i]);
+    while i < line.len() {
+        w = step(w, line[i]);
+        n = if w.place == k { w.value } else { n };
         i += 1;
     }
     n
 }
 
-// The number that begins at `from`.
-fn at(line: &[u8], from: usize) -> u64
-    requires { ⌜ from ≤ length (now line) ⌝ }
-{
-    value(text_words::piece(line, from, b' '))
-}
-
-// Word k of a line as a number.
-pub fn number(line: &[u8], k: usize) -> u64 {
-    value(text_words::word(line, k))
-}
-
-// A number without what is above 32 bits.
+// A number without the bits above 32.
 pub fn low(n: u64) -> u32 {
     (n % 0x1_0000_0000) as u32
 }
@@ -56,53 +70,55 @@ pub fn cell(line: &[u8], k: usize) -> u32 {
     low(number(line, k))
 }
 
-// Writes the numbers of a line from word `first` on into the front of a table: how many there are.
+// Writes the words of a line from word `first` on as numbers into the front of a table: how many there are.
 pub fn numbers(line: &[u8], first: usize, out: &mut [u64]) -> usize
     ensures { λ r. ⌜ Counts r (now (out .exit)) ⌝ }
 {
-    let mut from = text_words::start(line, first);
-    let mut k = 0;
-    while k < out.len() {
-        if from == line.len() {
-            return k;
+    let mut w = none();
+    let mut i = 0;
+    while i < line.len() {
+        w = step(w, line[i]);
+        let k = std::num::wrapping_sub_usize(w.place, first);
+        if k < out.len() {
+            out[k] = w.value;
         }
-        out[k] = at(line, from);
-        from = text_words::next(line, from, b' ');
-        k += 1;
+        i += 1;
     }
-    k
+    count(w.place, first, out.len())
 }
 
 // The same into a table of numbers of 32 bits.
 pub fn cells(line: &[u8], first: usize, out: &mut [u32]) -> usize
     ensures { λ r. ⌜ Counts r (now (out .exit)) ⌝ }
 {
-    let mut from = text_words::start(line, first);
-    let mut k = 0;
-    while k < out.len() {
-        if from == line.len() {
-            return k;
+    let mut w = none();
+    let mut i = 0;
+    while i < line.len() {
+        w = step(w, line[i]);
+        let n = low(w.value);
+        let k = std::num::wrapping_sub_usize(w.place, first);
+        if k < out.len() {
+            out[k] = n;
         }
-        out[k] = low(at(line, from));
-        from = text_words::next(line, from, b' ');
-        k += 1;
+        i += 1;
     }
-    k
+    count(w.place, first, out.len())
 }
 
 // The same into a table of lengths.
 pub fn lengths(line: &[u8], first: usize, out: &mut [usize]) -> usize
     ensures { λ r. ⌜ Counts r (now (out .exit)) ⌝ }
 {
-    let mut from = text_words::start(line, first);
-    let mut k = 0;
-    while k < out.len() {
-        if from == line.len() {
-            return k;
+    let mut w = none();
+    let mut i = 0;
+    while i < line.len() {
+        w = step(w, line[i]);
+        let n = w.value as usize;
+        let k = std::num::wrapping_sub_usize(w.place, first);
+        if k < out.len() {
+            out[k] = n;
         }
-        out[k] = at(line, from) as usize;
-        from = text_words::next(line, from, b' ');
-        k += 1;
+        i += 1;
     }
-    k
+    count(w.place, first, out.len())
 }

@@ -1,9 +1,6 @@
 // Parts of a line, written to standard output.
 use libc::STDOUT_FILENO;
 
-// What is written at once.
-type Text = [u8; 4096];
-
 // How bytes are written: as a word spells them, or in two digits each, with a space before the first alone; or in digits
 // with a space before every fourth, or before each.
 pub enum Style {
@@ -11,6 +8,12 @@ pub enum Style {
     Digits,
     Words,
     Bytes,
+}
+
+// What is to be written, and how much of it there is.
+struct Out {
+    text: [u8; 512],
+    used: usize,
 }
 
 // Bytes as they are.
@@ -30,15 +33,37 @@ pub fn number(n: u64) {
     io::print_decimal(STDOUT_FILENO, n);
 }
 
-// Puts a byte at the end of a text, which is written first where it is full: where the text then ends.
-fn put(out: &mut Text, at: usize, b: u8) -> usize {
-    if at < 4096 {
-        out[at] = b;
-        return at + 1;
+// Nothing yet.
+fn none() -> Out {
+    Out {
+        text: [0; 512],
+        used: 0,
     }
-    text(out);
-    out[0] = b;
-    1
+}
+
+// Writes what there is.
+fn flush(o: Out) {
+    let t = o.text;
+    text(text_words::part(&t, 0, o.used));
+}
+
+// One byte more; a full text is written first.
+fn put(mut o: Out, b: u8) -> Out {
+    let used = o.used;
+    if used < 512 {
+        o.text[used] = b;
+        o.used = used + 1;
+        return o;
+    }
+    flush(o);
+    o.text[0] = b;
+    o.used = 1;
+    o
+}
+
+// A space, or nothing.
+fn put_gap(o: Out, is: bool) -> Out {
+    if is { put(o, b' ') } else { o }
 }
 
 // A number below 16 as a digit.
@@ -48,22 +73,34 @@ fn digit(n: u8) -> u8 {
 }
 
 // A byte in two digits.
-fn put_hex(out: &mut Text, at: usize, b: u8) -> usize {
-    let next = put(out, at, digit(b >> 4));
-    put(out, next, digit(b))
+fn put_hex(o: Out, b: u8) -> Out {
+    put(put(o, digit(b >> 4)), digit(b))
 }
 
-// A byte as a word spells it.
-fn put_letter(out: &mut Text, at: usize, b: u8) -> usize {
+// A byte in a style.
+fn put_byte(o: Out, b: u8, letters: bool) -> Out {
+    if !letters {
+        return put_hex(o, b);
+    }
     if b == 0 {
-        return put(out, at, b'~');
+        return put(o, b'~');
     }
     if 32 < b && b < 127 && b != b'\\' && b != b'~' {
-        return put(out, at, b);
+        return put(o, b);
     }
-    let mark = put(out, at, b'\\');
-    let next = put(out, mark, b'x');
-    put_hex(out, next, b)
+    put_hex(put(put(o, b'\\'), b'x'), b)
+}
+
+// A number in decimal.
+fn put_number(mut o: Out, n: u64) -> Out {
+    let mut power: u64 = 10_000_000_000_000_000_000;
+    while 0 < power {
+        if power <= n || power == 1 {
+            o = put(o, digit((n / power % 10) as u8));
+        }
+        power = power / 10;
+    }
+    o
 }
 
 // Whether byte i begins a group.
@@ -75,92 +112,59 @@ fn begins(style: Style, i: usize) -> bool {
     }
 }
 
-// A space, or nothing.
-fn put_gap(out: &mut Text, at: usize, is: bool) -> usize {
-    if is { put(out, at, b' ') } else { at }
-}
-
-// A byte in a style.
-fn put_byte(out: &mut Text, at: usize, b: u8, style: Style) -> usize {
+// Whether a style writes bytes as a word spells them.
+fn letters(style: Style) -> bool {
     match style {
-        Style::Letters => put_letter(out, at, b),
-        _ => put_hex(out, at, b),
+        Style::Letters => true,
+        _ => false,
     }
 }
 
-// Bytes as they are.
-fn put_text(out: &mut Text, from: usize, s: &[u8]) -> usize {
-    let mut at = from;
-    let mut i = 0;
-    while i < s.len() {
-        at = put(out, at, s[i]);
-        i += 1;
-    }
-    at
-}
-
-// A number in decimal.
-fn put_number(out: &mut Text, at: usize, n: u64) -> usize {
-    let mut digits = [0; 20];
-    let k = io::decimal(n, &mut digits);
-    put_text(out, at, &digits[..k])
-}
-
-// Writes a text.
-fn written(out: &Text, at: usize) {
-    text(text_words::part(out, 0, at));
-}
-
-// Bytes in a style; the space before the first only where it is led.
+// Bytes in a style; the space before the first only if it is led.
 pub fn bytes(s: &[u8], style: Style, led: bool) {
-    let mut out = io::buffer();
-    let mut at = 0;
+    let mut o = none();
     let mut i = 0;
     while i < s.len() {
-        at = put_gap(&mut out, at, begins(style, i) && (led || 0 < i));
-        at = put_byte(&mut out, at, s[i], style);
+        o = put_gap(o, begins(style, i) && (led || 0 < i));
+        o = put_byte(o, s[i], letters(style));
         i += 1;
     }
-    written(&out, at);
+    flush(o);
 }
 
-// Numbers with a space between two, and one before the first where it is led.
+// Numbers with a space between two, and one before the first if it is led.
 pub fn numbers(list: &[u64], led: bool) {
-    let mut out = io::buffer();
-    let mut at = 0;
+    let mut o = none();
     let mut i = 0;
     while i < list.len() {
-        at = put_gap(&mut out, at, led || 0 < i);
-        at = put_number(&mut out, at, list[i]);
+        o = put_number(put_gap(o, led || 0 < i), list[i]);
         i += 1;
     }
-    written(&out, at);
-}
-
-// Numbers of a table from one index up to another, with a space between two and one before the first where it is led.
-pub fn cells(t: &[u32], from: usize, to: usize, led: bool) {
-    let mut i = from;
-    while i < to {
-        if t.len() <= i {
-            return;
-        }
-        gap(led || from < i);
-        cell(t[i]);
-        i += 1;
-    }
+    flush(o);
 }
 
 // A number of a table.
-fn cell(n: u32) {
-    number(n as u64);
+fn wide(n: u32) -> u64 {
+    n as u64
 }
 
-// Words, each with a number of a list; a space before the first where it is led.
+// The same of a table's numbers from one index up to another, as far as the table reaches.
+pub fn cells(t: &[u32], from: usize, to: usize, led: bool) {
+    let mut o = none();
+    let mut i = from;
+    while i < t.len() && i < to {
+        o = put_number(put_gap(o, led || from < i), wide(t[i]));
+        i += 1;
+    }
+    flush(o);
+}
+
+// Words, each with a number of a list; a space before the first if it is led.
 pub fn named(names: &[u8], list: &[u64], led: bool) {
     let mut k = 0;
     while k < list.len() {
         gap(led || 0 < k);
-        text(text_words::word(names, k));
+        text(text_words::nth(names, k, b' '));
         gap(true);
         number(list[k]);
         k += 1;

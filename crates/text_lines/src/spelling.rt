@@ -1,75 +1,84 @@
 // Bytes as a word spells them: a readable byte stands for itself, `~` for a byte 0, and `\xHH` for any byte.
-ghost use Prim.Native.Nat.{_≤_, _<_};
-ghost use lib.ListN.{length};
 ghost use Rattle.io.specs.Counts.{Counts};
+use text_words::number;
 
-// The number of a hexadecimal digit; 0 for any other byte.
-pub(crate) fn nibble(b: u8) -> u8 {
-    match b {
-        b'0'..=b'9' => b - b'0',
-        b'a'..=b'f' => b - b'a' + 10,
-        _ => 0,
+// Behind a backslash.
+const ESCAPE: u8 = 1;
+
+// Before the first hexadecimal digit of a byte.
+const HIGH: u8 = 2;
+
+// Before the second; the first is added.
+const LOW: u8 = 16;
+
+// How many bytes were spelled, the last of them, and the state: 0 where a byte begins, or one of the above.
+struct Spelled {
+    count: usize,
+    byte: u8,
+    state: u8,
+}
+
+// One byte more.
+fn put(s: Spelled, b: u8) -> Spelled {
+    Spelled {
+        count: std::num::wrapping_add_usize(s.count, 1),
+        byte: b,
+        state: 0,
     }
 }
 
-// The byte of two hexadecimal digits.
-fn pair(high: u8, low: u8) -> u8 {
-    (nibble(high) << 4) | nibble(low)
-}
-
-// What a byte alone stands for.
-fn plain(b: u8) -> u8 {
-    if b == b'~' { 0 } else { b }
-}
-
-// Where the spelling of a byte that begins at `from` ends.
-fn past(word: &[u8], from: usize) -> usize
-    requires { ⌜ from < length (now word) ⌝ }
-    ensures { λ r. ⌜ (from < r) × (r ≤ length (now (word .entry))) ⌝ }
-{
-    if word.len() - from < 4 {
-        return from + 1;
-    }
-    if word[from] == b'\\' && word[from + 1] == b'x' {
-        from + 4
-    } else {
-        from + 1
+// The same in another state.
+fn at(s: Spelled, state: u8) -> Spelled {
+    Spelled {
+        count: s.count,
+        byte: s.byte,
+        state,
     }
 }
 
-// The byte that is spelled from one index up to another.
-fn byte(word: &[u8], from: usize, to: usize) -> u8
-    requires { ⌜ from < to ⌝ }
-    requires { ⌜ to ≤ length (now word) ⌝ }
-{
-    if to - from == 4 {
-        pair(word[from + 2], word[from + 3])
-    } else {
-        plain(word[from])
+// The spelling with one byte more of the word.
+fn step(s: Spelled, b: u8) -> Spelled {
+    let state = s.state;
+    match state {
+        0 => match b {
+            b'\\' => at(s, ESCAPE),
+            b'~' => put(s, 0),
+            _ => put(s, b),
+        },
+        ESCAPE => at(s, HIGH),
+        HIGH => at(s, LOW | number::digit(b)),
+        _ => put(s, state << 4 | number::digit(b)),
     }
 }
 
 // Writes the bytes that a word spells into the front of a buffer, as far as they fit: how many there are.
-pub fn bytes(word: &[u8], out: &mut [u8]) -> usize
+fn bytes(word: &[u8], out: &mut [u8]) -> usize
     ensures { λ r. ⌜ Counts r (now (out .exit)) ⌝ }
 {
-    let mut from = 0;
-    let mut n = 0;
-    while n < out.len() {
-        if from == word.len() {
-            return n;
+    let mut s = Spelled {
+        count: 0,
+        byte: 0,
+        state: 0,
+    };
+    let mut i = 0;
+    while i < word.len() {
+        s = step(s, word[i]);
+        let k = std::num::wrapping_sub_usize(s.count, 1);
+        if k < out.len() {
+            out[k] = s.byte;
         }
-        let to = past(word, from);
-        out[n] = byte(word, from, to);
-        from = to;
-        n += 1;
+        i += 1;
     }
-    n
+    if s.count < out.len() {
+        s.count
+    } else {
+        out.len()
+    }
 }
 
 // The same for word k of a line.
 pub fn word(line: &[u8], k: usize, out: &mut [u8]) -> usize
     ensures { λ r. ⌜ Counts r (now (out .exit)) ⌝ }
 {
-    bytes(text_words::word(line, k), out)
+    bytes(text_words::nth(line, k, b' '), out)
 }

@@ -1,4 +1,6 @@
-// The words of a line, with one space between two; the lines of a text.
+// Pieces of a text, each with one byte between two: the words of a line, the lines of a list. Numbers, digit by digit.
+pub mod number;
+
 ghost use Prim.Native.Nat.{_+_, _≤_, min};
 ghost use lib.ListN.{length};
 
@@ -19,25 +21,25 @@ pub fn piece(s: &[u8], from: usize, by: u8) -> &[u8]
     &s[from..to]
 }
 
-// Where word k of a line begins, or the line's end.
-pub fn start(line: &[u8], k: usize) -> usize
-    ensures { λ r. ⌜ r ≤ length (now (line .entry)) ⌝ }
+// Where piece k begins, or the end.
+fn start(s: &[u8], k: usize, by: u8) -> usize
+    ensures { λ r. ⌜ r ≤ length (now (s .entry)) ⌝ }
 {
     let mut at = 0;
     let mut left = k;
     while 0 < left {
-        at = next(line, at, b' ');
+        at = next(s, at, by);
         left -= 1;
     }
     at
 }
 
-// Word k of a line; an empty one where the line has fewer.
-pub fn word(line: &[u8], k: usize) -> &[u8] {
-    piece(line, start(line, k), b' ')
+// Piece k; an empty one if there are fewer.
+pub fn nth(s: &[u8], k: usize, by: u8) -> &[u8] {
+    piece(s, start(s, k, by), by)
 }
 
-// Which word of a list of up to `most` is this one; `most` where none is.
+// Which word of a list of up to `most` is this one; `most` if none is.
 pub fn place(list: &[u8], most: usize, wanted: &[u8]) -> usize {
     let mut at = 0;
     let mut k = 0;
@@ -51,10 +53,12 @@ pub fn place(list: &[u8], most: usize, wanted: &[u8]) -> usize {
     most
 }
 
-// The part from one index up to another; an empty one where there is no such part.
+// The part from one index up to another, as far as the slice reaches.
 pub fn part(s: &[u8], from: usize, to: usize) -> &[u8] {
     if from <= to && to <= s.len() {
         &s[from..to]
+    } else if from < to && from <= s.len() {
+        &s[from..]
     } else {
         &s[..0]
     }

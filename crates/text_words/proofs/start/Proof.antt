@@ -1,4 +1,4 @@
--- `start` stays within the line, and ends: fewer words are left each time.
+-- `start` stays within the text, and ends: fewer pieces are left each time.
 use Prim.Native.Nat.{_≤_}
 use lib.ListN.{length}
 use borrow.Author.Needs.{needs}
@@ -6,10 +6,10 @@ use Rattle.text_words.proofs.start.Statement.{statement}
 use Rattle.text_words.proofs.start.Tie as tie
 
 abbrev Inv-loop : tie.InvT-loop
-Inv-loop line k at₀ left₀ at left = at ≤ length line
+Inv-loop s k by at₀ left₀ at left = at ≤ length s
 
 abbrev μ-loop : tie.MeasureT-loop
-μ-loop line k at₀ left₀ at left = left
+μ-loop s k by at₀ left₀ at left = left
 
 pub start-spec : {M : Type 1} → statement M
 start-spec =

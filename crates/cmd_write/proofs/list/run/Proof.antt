@@ -6,10 +6,10 @@ use Rattle.cmd_write.proofs.list.run.Statement.{statement}
 use Rattle.cmd_write.proofs.list.run.Tie as tie
 
 abbrev Inv-loop : tie.InvT-loop
-Inv-loop lines d₀ at₀ t7 d at = at ≤ length lines
+Inv-loop lines d₀ at₀ n₀ d at n = at ≤ length lines
 
 abbrev μ-loop : tie.MeasureT-loop
-μ-loop lines d₀ at₀ t7 d at = length lines - at
+μ-loop lines d₀ at₀ n₀ d at n = length lines - at
 
 pub run-spec : {M : Type 1} → statement M
 run-spec =
@@ -17,7 +17,6 @@ run-spec =
     (tie.spec
     Inv-loop
     μ-loop
-    (λ c. search needs) (λ c κs. search needs) (λ c. search needs) (λ c κs. search needs) (λ c κs. search needs)
-    (λ c κs. search needs) (λ c κs. search needs) (λ c. search needs) (λ c κs. search needs) (λ c κs. search needs)
-    (λ c. search needs) (λ c. search needs) (λ c. search needs) (λ c κs. search needs) (λ c. search needs)
-    (λ c κs. search needs) (λ c κs. search needs) (λ c. search needs) (λ c. search needs))
+    (λ c κs. search needs) (λ c. search needs) (λ c κs. search needs) (λ c κs. search needs) (λ c κs. search needs)
+    (λ c κs. search needs) (λ c κs. search needs) (λ c κs. search needs) (λ c. search needs) (λ c. search needs)
+    (λ c. search needs) (λ c. search needs) (λ c. search needs) (λ c κs. search needs) (λ c. search needs))

@@ -1,4 +1,4 @@
--- `sums::bytes` is safe and ends: the index stays within the bytes.
+-- `sums::bytes` is safe and ends: each turn comes nearer to the end of the bytes.
 use Prim.Native.Nat.{_≤_, _-_}
 use lib.ListN.{length}
 use borrow.Author.Needs.{needs}
@@ -6,10 +6,10 @@ use Rattle.test_replay.proofs.sums.bytes.Statement.{statement}
 use Rattle.test_replay.proofs.sums.bytes.Tie as tie
 
 abbrev Inv-loop : tie.InvT-loop
-Inv-loop s sum₀ i₀ sum i = i ≤ length s
+Inv-loop s most sum₀ i₀ sum i = 0 ≤ i
 
 abbrev μ-loop : tie.MeasureT-loop
-μ-loop s sum₀ i₀ sum i = length s - i
+μ-loop s most sum₀ i₀ sum i = length s - i
 
 pub bytes-spec : {M : Type 1} → statement M
 bytes-spec =
@@ -18,4 +18,4 @@ bytes-spec =
     Inv-loop
     μ-loop
     (λ c. search needs) (λ c. search needs) (λ c κs. search needs) (λ c. search needs) (λ c. search needs)
-    (λ c. search needs) (λ c. search needs))
+    (λ c. search needs) (λ c. search needs) (λ c. search needs))

@@ -1,4 +1,4 @@
--- `sums::table` is safe and ends: the index stays within the table.
+-- `sums::table` is safe and ends: each turn comes nearer to the end of the table.
 use Prim.Native.Nat.{_≤_, _-_}
 use lib.ListN.{length}
 use borrow.Author.Needs.{needs}
@@ -6,10 +6,10 @@ use Rattle.test_replay.proofs.sums.table.Statement.{statement}
 use Rattle.test_replay.proofs.sums.table.Tie as tie
 
 abbrev Inv-loop : tie.InvT-loop
-Inv-loop t sum₀ i₀ sum i = i ≤ length t
+Inv-loop t most sum₀ i₀ sum i = 0 ≤ i
 
 abbrev μ-loop : tie.MeasureT-loop
-μ-loop t sum₀ i₀ sum i = length t - i
+μ-loop t most sum₀ i₀ sum i = length t - i
 
 pub table-spec : {M : Type 1} → statement M
 table-spec =
@@ -18,4 +18,4 @@ table-spec =
     Inv-loop
     μ-loop
     (λ c. search needs) (λ c. search needs) (λ c. search needs) (λ c κs. search needs) (λ c. search needs)
-    (λ c. search needs) (λ c. search needs) (λ c. search needs))
+    (λ c. search needs) (λ c. search needs) (λ c. search needs) (λ c. search needs))

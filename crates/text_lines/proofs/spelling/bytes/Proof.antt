@@ -1,24 +1,19 @@
--- `spelling::bytes` is safe and ends: the count stays within the buffer, and the spelling within the word.
+-- `spelling::bytes` counts the front of the buffer, and ends: each turn comes nearer to the end of the word.
 use Prim.Native.Nat.{_≤_, _-_}
-use mathlib.Core.Path.{_≡_}
-use lib.ListN.{length}
+use mathlib.Core.Path.{_≡_, ap}
+use lib.ListN.{length, length-set}
+use mathlib.Core.Logic.{⊎-elim}
 use native.Mathlib.Omega.{arith}
 use borrow.Author.Needs.{needs}
-use Rattle.text_lines.proofs.Counted.{counted}
+use Rattle.text_words.proofs.Counted.{counted}
 use Rattle.text_lines.proofs.spelling.bytes.Statement.{statement}
 use Rattle.text_lines.proofs.spelling.bytes.Tie as tie
 
 abbrev Inv-loop : tie.InvT-loop
-Inv-loop word out₀ from₀ n₀ out from n = (n ≤ length out₀) × (length out ≡ length out₀) × (from ≤ length word)
+Inv-loop word out₀ s₀ i₀ out s i = (length out ≡ length out₀) × (0 ≤ i)
 
 abbrev μ-loop : tie.MeasureT-loop
-μ-loop word out₀ from₀ n₀ out from n = length out₀ - n
-
-returns : tie.Need-returns Inv-loop μ-loop
-returns c = counted _ _ (omega arith)
-
-returns-2 : tie.Need-returns-2 Inv-loop μ-loop
-returns-2 c = counted _ _ (omega arith)
+μ-loop word out₀ s₀ i₀ out s i = length word - i
 
 pub bytes-spec : {M : Type 1} → statement M
 bytes-spec =
@@ -26,8 +21,6 @@ bytes-spec =
     (tie.spec
     Inv-loop
     μ-loop
-    (λ c. search needs) (λ c. search needs)
-    returns
-    (λ c κs. search needs) (λ c κs. search needs) (λ c. search needs) (λ c. search needs) (λ c. search needs)
-    (λ c. search needs) (λ c. search needs)
-    returns-2)
+    (λ c. search needs) (λ c. search needs) (λ c κs. search needs) (λ c κs. search needs) (λ c. search needs)
+    (λ c. search needs) (λ c. search needs) (λ c. ⊎-elim (λ u. (omega (arith, simp length-set at (ap length (u .1))), search needs)) (λ u. search needs) (c .if1 .came)) (λ c. search needs) (λ c. counted _ _ (omega arith))
+    (λ c. search needs) (λ c. counted _ _ (omega arith)))

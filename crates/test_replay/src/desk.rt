@@ -1,0 +1,77 @@
+// What is kept from line to line. It is passed by value: a lent buffer costs more to prove in each function than a copy.
+ghost use Rattle.io.specs.Counts.{Counts};
+use crate::room;
+use fdt_record::Record;
+use fdt_writer::Answered;
+use fdt_writer::FdtWriter;
+
+// A writer; its last answer's number, and the handle that it gave or 0; the arrays, and how much of the front of each the
+// next call is lent; whether lines are written again.
+pub struct Desk {
+    pub writer: FdtWriter,
+    pub number: u32,
+    pub handle: usize,
+    pub blob: [u8; 65_600],
+    pub strings: [u8; 8_256],
+    pub phandles: [u32; 320],
+    pub blob_lent: usize,
+    pub strings_lent: usize,
+    pub phandles_lent: usize,
+    pub aloud: bool,
+}
+
+// No writer yet: the closed record, and nothing lent.
+pub fn closed() -> Desk {
+    let writer = FdtWriter(Record {
+        blob_room: 0,
+        blob_used: 0,
+        strings_room: 0,
+        strings_used: 0,
+        phandles_room: 0,
+        phandles_used: 0,
+        reservations: 0,
+        node_depth: 0,
+        boot_cpuid_phys: 0,
+        node_ended: false,
+        finished: true,
+    });
+    let blob = room::blob();
+    let strings = room::strings();
+    let phandles = [0xeeee_eeee; 320];
+    Desk {
+        writer,
+        number: 0,
+        handle: 0,
+        blob,
+        strings,
+        phandles,
+        blob_lent: 0,
+        strings_lent: 0,
+        phandles_lent: 0,
+        aloud: true,
+    }
+}
+
+// The desk after an answer without a handle.
+pub fn answered(mut d: Desk, a: Answered) -> Desk {
+    let writer = a.writer;
+    let answer = a.answer;
+    d.writer = writer;
+    d.number = fdt_record::number(answer);
+    d.handle = 0;
+    d
+}
+
+// How much of a buffer is lent: so many bytes, or all.
+pub fn within(n: usize, s: &[u8]) -> usize
+    ensures { λ r. ⌜ Counts r (now (s .entry)) ⌝ }
+{
+    if n < s.len() { n } else { s.len() }
+}
+
+// How much of a table is lent: so many entries, or all.
+pub fn within_table(n: usize, t: &[u32]) -> usize
+    ensures { λ r. ⌜ Counts r (now (t .entry)) ⌝ }
+{
+    if n < t.len() { n } else { t.len() }
+}
