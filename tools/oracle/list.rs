@@ -71,16 +71,14 @@ fn meant(word: &str) -> Result<Vec<u8>, String> {
     Ok(out)
 }
 
-// A decimal number, taken modulo 2^64.
+// A decimal number of at most 64 bits; an empty word is 0.
 fn number(word: &str) -> Result<u64, String> {
-    let mut n = 0u64;
-    for d in word.bytes() {
-        if !d.is_ascii_digit() {
-            return Err(format!("no number: {word}"));
-        }
-        n = n.wrapping_mul(10).wrapping_add((d - b'0') as u64);
-    }
-    Ok(n)
+    word.bytes()
+        .try_fold(0u64, |n, d| {
+            let digit = d.is_ascii_digit().then(|| u64::from(d - b'0'))?;
+            n.checked_mul(10)?.checked_add(digit)
+        })
+        .ok_or_else(|| format!("no number: {word}"))
 }
 
 fn numbers(words: &[&str]) -> Result<Vec<u64>, String> {
