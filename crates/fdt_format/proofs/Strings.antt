@@ -8,7 +8,7 @@ use native.Mathlib.Omega.{arith}
 use lib.ListN.{length}
 use Rattle.fdt_strings.specs.declared.Found.{Found}
 use Rattle.fdt_strings.specs.declared.Found.the-variants.{At, Nothing}
-use Rattle.fdt_strings.specs.Entries.{entries, firstFrom, findString, same, joined, NoZero}
+use Rattle.fdt_strings.specs.Entries.{foundValues, entries, firstFrom, findString, same, joined, NoZero}
 use Rattle.fdt_strings.proofs.Entries.{eq-same, entries-joined, first-after, found-stands, Stands, no-entry, next-entry, Plain as PlainNames}
 use Rattle.fdt_format.specs.Description.{_≔_}
 use Rattle.fdt_format.specs.Events.{Event, begins, has, ends}
@@ -122,7 +122,7 @@ names-plain (ends ∷ es) a p = names-plain es (a .1) p
 module _ {names : List (List ℕ)} (p : PlainNames names) where
   -- a name that is found is in the strings, at its offset
   pub has-stands : (name : List ℕ) → Has names name → Stands (joined names) name (offsetOf names name)
-  unfolding Has offsetOf foundAt findString
+  unfolding Has offsetOf foundAt foundValues findString
   has-stands name h =
       let f : firstFrom 0 (entries (joined names)) name ≡ At (h .0) = ap (λ (l : List (List ℕ)). firstFrom 0 l name) (entries-joined p) ∙ h .1 in
       rw (h .1) (found-stands (joined names) name (h .0) f)

@@ -1,11 +1,11 @@
 -- The bytes of a description (document 01, "The bytes"): header, reservations, structure, strings.
 use mathlib.Core.List.{List, [], _∷_, _++_}
 use Prim.Native.Nat.{ℕ, _+_, _<_, _^_}
-use lib.ListN.{length}
+use lib.ListN.{length, getD}
 use Rattle.fdt_bytes.specs.Padding.{roundUp}
 use Rattle.fdt_strings.specs.declared.Found.{Found}
 use Rattle.fdt_strings.specs.declared.Found.the-variants.{At, Nothing}
-use Rattle.fdt_strings.specs.Entries.{firstFrom, joined, NoZero}
+use Rattle.fdt_strings.specs.Entries.{foundValues, firstFrom, joined, NoZero}
 use Rattle.fdt_format.specs.Description.{_≔_, Reservation, reserved, Description}
 use Rattle.fdt_format.specs.Events.{Event, begins, has, ends, events}
 use Rattle.fdt_header.specs.Header.{structureStart, reservationBytes, headerBytes}
@@ -33,8 +33,7 @@ namesOf es = namesFrom [] es
 
 -- the offset that was found, or 0
 unfoldable pub foundAt : Found → ℕ
-foundAt (At offset) = offset
-foundAt Nothing = 0
+foundAt f = getD (foundValues f) 0 0
 
 -- the offset of a name in the strings of names
 unfoldable pub offsetOf : List (List ℕ) → List ℕ → ℕ

@@ -17,7 +17,7 @@ use Rattle.fdt_strings.specs.declared.Found.{Found}
 use Rattle.fdt_strings.specs.declared.Found.the-variants.{At, Nothing}
 use Rattle.fdt_strings.specs.declared.Interned.{Interned}
 use Rattle.fdt_strings.specs.declared.Interned.the-variants as place
-use Rattle.fdt_strings.specs.Entries.{entry, entries, firstFrom, findString, joined, NoZero, no-byte, next-byte}
+use Rattle.fdt_strings.specs.Entries.{foundValues, entry, entries, firstFrom, findString, joined, NoZero, no-byte, next-byte}
 use Rattle.fdt_strings.specs.Interned.{interned, numberOf, valuesOf}
 use Rattle.fdt_strings.proofs.Entries.{Plain as PlainNames, entries-joined, joined-append, first-after, eq-same}
 use Rattle.fdt_strings.proofs.Places.{known-found, new-placed}
@@ -84,7 +84,7 @@ module _ {room used : ℕ} {strings : List ℕ} (name : List ℕ) {names : List 
   among g e = ap (λ (l : List (List ℕ)). firstFrom 0 l name) (sym (entries-joined plain) ∙ ap entries (sym (f .part))) ∙ e
 
   pub named : isFull (interned (take used strings) room name) ≡ false → Named room used strings name names (interned (take used strings) room name)
-  unfolding isFull numberOf placeOffset valuesOf offsetOf foundAt withName orAtEnd added stored firstFrom joined
+  unfolding isFull numberOf placeOffset valuesOf offsetOf foundAt foundValues withName orAtEnd added stored firstFrom joined
   named h = go (interned (take used strings) room name) refl h
     where
       known : (i : ℕ) → firstFrom 0 names name ≡ At i → Named room used strings name names (place.Known i)
