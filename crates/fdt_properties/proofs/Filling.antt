@@ -82,19 +82,20 @@ module _ (used offset len end : ℕ) (value blob : List ℕ) (sized : len ≡ le
 
 module _ {w : Record} {blob strings name : List ℕ} {m : Measured} {r : Tested} (tests : Tests w blob strings name m r) where
   -- refused: nothing is altered
-  pub nothing-placed : accepts (r .answer) ≡ false → (v : Value) → Measures m v → Placeholder w blob strings name v (record { outcome = record { answer = r .answer; after = w }; at = 0 }) blob strings
+  pub nothing-placed : accepts (r .answer) ≡ false → (v : Value) → Measures m v → Placeholder w blob strings name v (record { outcome = record { answer = r .answer; after = w }; accepted = false; at = 0 }) blob strings
   unfolding property propertyStrings
   nothing-placed t v k =
       let told = tests .answered v k in
       record {
         result = outcome-refused _ _ told _ _ t;
         names = left-refused _ _ told _ _ t;
+        told = sym t;
         refused = λ h. refl;
-        accepted = λ h. absurd (true≢false (sym h ∙ t));
+        unfilled = λ h. absurd (true≢false (sym h));
       }
 
   -- accepted: only the value is left to be written
-  pub placed : accepts (r .answer) ≡ true → {s b : List ℕ} → s ≡ storedAt (r .offset) (r .added) name strings → b ≡ framed (w .«blob_used») (r .offset) (m .len) (r .after .«blob_used») blob → (v : Value) → Measures m v → Placeholder w blob strings name v (record { outcome = record { answer = r .answer; after = r .after }; at = w .«blob_used» + 12 }) b s
+  pub placed : accepts (r .answer) ≡ true → {s b : List ℕ} → s ≡ storedAt (r .offset) (r .added) name strings → b ≡ framed (w .«blob_used») (r .offset) (m .len) (r .after .«blob_used») blob → (v : Value) → Measures m v → Placeholder w blob strings name v (record { outcome = record { answer = r .answer; after = r .after }; accepted = true; at = w .«blob_used» + 12 }) b s
   unfolding property propertyStrings written
   placed t {s} {b} es eb v k =
       let told = tests .answered v k in
@@ -108,8 +109,9 @@ module _ {w : Record} {blob strings name : List ℕ} {m : Measured} {r : Tested}
         names =
             es ∙ rw (q .offset-is, q .added-is) (stored-at (placeOf w strings name) name strings)
             ∙ left-accepted _ _ told _ _ t;
-        refused = λ h. absurd (true≢false (sym t ∙ h));
-        accepted =
+        told = sym t;
+        refused = λ h. absurd (true≢false h);
+        unfilled =
             λ h. record {
               in-order = i .0;
               fits = rw eb (value-fits used (r .offset) (m .len) end (valueBytes v) blob sized (q .frame-fits));
@@ -122,22 +124,22 @@ module _ {w : Record} {blob strings name : List ℕ} {m : Measured} {r : Tested}
 
 module _ {w : Record} {blob strings name : List ℕ} {v : Value} {r : Placed} {b s : List ℕ} (p : Placeholder w blob strings name v r b s) where
   -- what a placeholder leaves that was refused
-  pub left-unfilled : accepts (r .outcome .answer) ≡ false → PropertyOutcome w blob strings name v (r .outcome) b s
+  pub left-unfilled : r .accepted ≡ false → PropertyOutcome w blob strings name v (r .outcome) b s
   unfolding property propertyBlob
   left-unfilled t =
       record {
         result = p .result;
-        bytes = p .refused t ∙ left-refused _ _ (ap (λ (o : Outcome). o .answer) (p .result)) _ _ t;
+        bytes = p .refused t ∙ left-refused _ _ (ap (λ (o : Outcome). o .answer) (p .result)) _ _ (sym (p .told) ∙ t);
         names = p .names;
       }
 
   -- and one that is filled with the value
-  pub filled-with : accepts (r .outcome .answer) ≡ true → {b′ : List ℕ} → b′ ≡ splice (r .at) (valueBytes v) b → PropertyOutcome w blob strings name v (r .outcome) b′ s
+  pub filled-with : r .accepted ≡ true → {b′ : List ℕ} → b′ ≡ splice (r .at) (valueBytes v) b → PropertyOutcome w blob strings name v (r .outcome) b′ s
   unfolding property propertyBlob
   filled-with t {b′} e =
       record {
         result = p .result;
-        bytes = e ∙ p .accepted t .filled ∙ left-accepted _ _ (ap (λ (o : Outcome). o .answer) (p .result)) _ _ t;
+        bytes = e ∙ p .unfilled t .filled ∙ left-accepted _ _ (ap (λ (o : Outcome). o .answer) (p .result)) _ _ (sym (p .told) ∙ t);
         names = p .names;
       }
 
@@ -161,18 +163,18 @@ of-texts joined lengths e z = record {
 }
 
 module _ {w : Record} {blob strings name : List ℕ} {r : Placed} {b s : List ℕ} where
-  pub bytes-fit : {bytes : List ℕ} → Placeholder w blob strings name (raw bytes) r b s → accepts (r .outcome .answer) ≡ true → r .at + length bytes ≤ length b
+  pub bytes-fit : {bytes : List ℕ} → Placeholder w blob strings name (raw bytes) r b s → r .accepted ≡ true → r .at + length bytes ≤ length b
   unfolding valueBytes
-  bytes-fit p t = p .accepted t .fits
+  bytes-fit p t = p .unfilled t .fits
 
-  pub cells-fit : {width : ℕ} {numbers : List ℕ} → Placeholder w blob strings name (cells width numbers) r b s → accepts (r .outcome .answer) ≡ true → r .at + width * length numbers ≤ length b
+  pub cells-fit : {width : ℕ} {numbers : List ℕ} → Placeholder w blob strings name (cells width numbers) r b s → r .accepted ≡ true → r .at + width * length numbers ≤ length b
   unfolding valueBytes
-  cells-fit {width} {numbers} p t = rw (sym (length-cells width numbers)) (p .accepted t .fits)
+  cells-fit {width} {numbers} p t = rw (sym (length-cells width numbers)) (p .unfilled t .fits)
 
   pub texts-fit :
-      {joined lengths : List ℕ} → Placeholder w blob strings name (texts joined lengths) r b s → accepts (r .outcome .answer) ≡ true →
+      {joined lengths : List ℕ} → Placeholder w blob strings name (texts joined lengths) r b s → r .accepted ≡ true →
       (sum lengths ≡ length joined) × (r .at + (length joined + length lengths) ≤ length b)
   unfolding valueBytes
   texts-fit {joined} {lengths} p t =
-      let u = p .accepted t in
+      let u = p .unfilled t in
       let e = fits-texts joined lengths (u .in-order) in (e, rw (sym (length-texts joined lengths e)) (u .fits))

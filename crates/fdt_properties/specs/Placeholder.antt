@@ -76,5 +76,6 @@ pub record Unfilled (w : Record) (blob strings name : List ℕ) (v : Value) (at 
 pub record Placeholder (w : Record) (blob strings name : List ℕ) (v : Value) (r : Placed) (blobAfter stringsAfter : List ℕ) : Type 0 where
   pub result : r .outcome ≡ property w blob strings name v
   pub names : stringsAfter ≡ propertyStrings w blob strings name v
-  pub refused : accepts (r .outcome .answer) ≡ false → blobAfter ≡ blob
-  pub accepted : accepts (r .outcome .answer) ≡ true → Unfilled w blob strings name v (r .at) blobAfter
+  pub told : r .accepted ≡ accepts (r .outcome .answer)
+  pub refused : r .accepted ≡ false → blobAfter ≡ blob
+  pub unfilled : r .accepted ≡ true → Unfilled w blob strings name v (r .at) blobAfter

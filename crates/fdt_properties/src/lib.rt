@@ -39,9 +39,10 @@ struct Tested {
     after: Record,
 }
 
-// The outcome of the call and, if it is accepted, where its value goes.
+// The outcome of the call, whether it is accepted, and where its value then goes.
 struct Placed {
     outcome: Outcome,
+    accepted: bool,
     at: usize,
 }
 
@@ -194,7 +195,11 @@ fn property_placeholder(
     let answer = tested.answer;
     if !fdt_record::accepted(answer) {
         let outcome = Outcome { answer, after: w };
-        return Placed { outcome, at: 0 };
+        return Placed {
+            outcome,
+            accepted: false,
+            at: 0,
+        };
     }
     let after = tested.after;
     let used = w.blob_used;
@@ -202,7 +207,11 @@ fn property_placeholder(
     put_frame(blob, used, tested.offset, value.len, after.blob_used);
     let at = used + 12;
     let outcome = Outcome { answer, after };
-    Placed { outcome, at }
+    Placed {
+        outcome,
+        accepted: true,
+        at,
+    }
 }
 
 // Writes a property of bytes.
@@ -222,8 +231,7 @@ pub fn write_bytes(
     };
     let placed = property_placeholder(w, blob, strings, name, value);
     let outcome = placed.outcome;
-    let answer = outcome.answer;
-    if !fdt_record::accepted(answer) {
+    if !placed.accepted {
         return outcome;
     }
     fdt_splice::bytes_at(blob, placed.at, val);
@@ -247,8 +255,7 @@ pub fn write_cells(
     };
     let placed = property_placeholder(w, blob, strings, name, value);
     let outcome = placed.outcome;
-    let answer = outcome.answer;
-    if !fdt_record::accepted(answer) {
+    if !placed.accepted {
         return outcome;
     }
     fdt_splice::cells_at(blob, placed.at, numbers);
@@ -272,8 +279,7 @@ pub fn write_wide_cells(
     };
     let placed = property_placeholder(w, blob, strings, name, value);
     let outcome = placed.outcome;
-    let answer = outcome.answer;
-    if !fdt_record::accepted(answer) {
+    if !placed.accepted {
         return outcome;
     }
     fdt_splice::wide_cells_at(blob, placed.at, numbers);
@@ -298,8 +304,7 @@ pub fn write_texts(
     };
     let placed = property_placeholder(w, blob, strings, name, value);
     let outcome = placed.outcome;
-    let answer = outcome.answer;
-    if !fdt_record::accepted(answer) {
+    if !placed.accepted {
         return outcome;
     }
     fdt_values::texts_at(blob, placed.at, joined, lengths);
