@@ -48,7 +48,7 @@ fn with(before: Record, place: usize, n: u64) -> Record {
 
 // A record as a line sets it.
 pub fn set(r: Record, line: &[u8]) -> Record {
-    let place = text_words::place(&NAMES, 11, text_words::nth(line, 1, b' '));
+    let place = text_words::place(&NAMES, 11, text_words::word(line, 1));
     with(r, place, numbers::number(line, 2))
 }
 

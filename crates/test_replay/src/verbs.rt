@@ -71,5 +71,5 @@ pub fn asked(line: &[u8]) -> usize {
         property_u32 property_u64 property_array_u32 property_array_u64 \
         show record blob strings phandles fields \
         buffers lend put_blob put_strings put_phandles set aloud quiet";
-    text_words::place(list, REMARK, text_words::nth(line, 0, b' '))
+    text_words::place(list, REMARK, text_words::word(line, 0))
 }

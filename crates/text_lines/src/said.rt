@@ -164,7 +164,7 @@ pub fn named(names: &[u8], list: &[u64], led: bool) {
     let mut k = 0;
     while k < list.len() {
         gap(led || 0 < k);
-        text(text_words::nth(names, k, b' '));
+        text(text_words::word(names, k));
         gap(true);
         number(list[k]);
         k += 1;

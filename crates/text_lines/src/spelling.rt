@@ -80,5 +80,5 @@ fn bytes(word: &[u8], out: &mut [u8]) -> usize
 pub fn word(line: &[u8], k: usize, out: &mut [u8]) -> usize
     ensures { λ r. ⌜ Counts r (now (out .exit)) ⌝ }
 {
-    bytes(text_words::nth(line, k, b' '), out)
+    bytes(text_words::word(line, k), out)
 }

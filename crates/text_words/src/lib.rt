@@ -39,6 +39,11 @@ pub fn nth(s: &[u8], k: usize, by: u8) -> &[u8] {
     piece(s, start(s, k, by), by)
 }
 
+// Word k of a line.
+pub fn word(line: &[u8], k: usize) -> &[u8] {
+    nth(line, k, b' ')
+}
+
 // Which word of a list of up to `most` is this one; `most` if none is.
 pub fn place(list: &[u8], most: usize, wanted: &[u8]) -> usize {
     let mut at = 0;
