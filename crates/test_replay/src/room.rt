@@ -1,4 +1,4 @@
-// The large arrays. Each says how long it is, so that lending it counts nothing out.
+// The large arrays. Each function states the length, so that a proof that lends the array does not count its elements.
 ghost use mathlib.Core.Path.{_≡_};
 ghost use lib.ListN.{length};
 

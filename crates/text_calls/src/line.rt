@@ -5,7 +5,8 @@ use crate::texts;
 use crate::texts::Texts;
 use crate::verbs;
 
-// The call; where its name begins and ends, and where its values begin; its last two numbers; whether the line is right.
+// The call; where its name begins and ends, and where its values begin; its last two numbers; whether the line is a call
+// that the list's form allows, or makes none.
 pub struct Line {
     pub verb: usize,
     pub name: usize,
@@ -28,7 +29,7 @@ fn run_end(line: &[u8], from: usize, blanks: bool) -> usize {
     at
 }
 
-// The numbers of a line from a place on. A blank follows the last.
+// The numbers of a line from a place on, as if a blank followed the last.
 fn numbers_of(line: &[u8], from: usize, most: u64) -> Numbers {
     let mut v = numbers::none();
     let mut i = from;

@@ -1,21 +1,6 @@
-// The large arrays. Each says how long it is, so that lending it counts nothing out.
+// The large arrays. Each function states the length, so that a proof that lends the array does not count its elements.
 ghost use mathlib.Core.Path.{_≡_};
 ghost use lib.ListN.{length};
-
-// The strings or bytes of a line. As many as this fit no blob.
-pub type Text = [u8; 65_536];
-
-// The lengths of a line's strings. As many as this fit no blob, even if all are empty.
-pub type Lengths = [usize; 65_536];
-
-// Numbers of 4 bytes, of a line. As many as this fit no blob.
-pub type Cells = [u32; 16_384];
-
-// Numbers of 8 bytes, of a line. As many as this fit no blob.
-pub type Wide = [u64; 8_192];
-
-// The numbers of reservations: one pair more than may be.
-pub type Pairs = [u64; 130];
 
 // A list, and one byte more.
 pub fn list() -> [u8; 1_048_576]
@@ -24,29 +9,29 @@ pub fn list() -> [u8; 1_048_576]
     [0; 1_048_576]
 }
 
-// Strings as long as their ceiling.
+// The names of properties, as long as their ceiling.
 pub fn names() -> [u8; 8_192]
     ensures { λ r. ⌜ 8192 ≡ length r ⌝ }
 {
     [0; 8_192]
 }
 
-// Room for lengths.
-pub fn lengths() -> Lengths
+// The lengths of a line's strings. No blob has room for so many, even if all are empty.
+pub fn lengths() -> [usize; 65_536]
     ensures { λ r. ⌜ 65536 ≡ length r ⌝ }
 {
     [0; 65_536]
 }
 
-// Room for numbers of 4 bytes.
-pub fn cells() -> Cells
+// The numbers of 4 bytes of a line. No blob has room for so many.
+pub fn cells() -> [u32; 16_384]
     ensures { λ r. ⌜ 16384 ≡ length r ⌝ }
 {
     [0; 16_384]
 }
 
-// Room for numbers of 8 bytes.
-pub fn wide() -> Wide
+// The numbers of 8 bytes of a line. No blob has room for so many.
+pub fn wide() -> [u64; 8_192]
     ensures { λ r. ⌜ 8192 ≡ length r ⌝ }
 {
     [0; 8_192]

@@ -3,25 +3,25 @@ use libc::STDERR_FILENO;
 
 // What each refusal means, by its number.
 const REFUSALS: [u8; 795] = *b"\n\
-    : a property must be inside a node\n\
-    : properties must come before child nodes\n\
-    : the value is too large\n\
-    : the blob is too large\n\
-    : a name or a string contains a zero byte\n\
-    : there is no open node to end\n\
-    : a node is still open (an end is missing)\n\
-    : the reservation is empty or runs past the end of the address space\n\
-    : two reservations overlap\n\
-    : not a valid node name (a letter, at most 30 of A-Z a-z 0-9 , . _ + - and optionally @ with an address)\n\
-    : not a valid property name (1 to 31 of A-Z a-z 0-9 , . _ + ? # -)\n\
-    : nodes can be nested at most 64 deep\n\
-    : another node has this phandle\n\
-    : no room left in the blob\n\
-    : no room left for another property name\n\
-    : no room left for another phandle\n\
-    : the record and the buffers do not match\n\
-    : the blob is already finished\n\
-    : there can be at most 64 reservations";
+    , a property must be inside a node\n\
+    , properties must come before child nodes\n\
+    , the value is too large\n\
+    , the blob is too large\n\
+    , a name or a string contains a zero byte\n\
+    , there is no open node to end\n\
+    , a node is still open (an end is missing)\n\
+    , the reservation is empty or runs past the end of the address space\n\
+    , two reservations overlap\n\
+    , not a valid node name (a letter, at most 30 of A-Z a-z 0-9 , . _ + - and optionally @ with an address)\n\
+    , not a valid property name (1 to 31 of A-Z a-z 0-9 , . _ + ? # -)\n\
+    , nodes can be nested at most 64 deep\n\
+    , another node has this phandle\n\
+    , no room left in the blob\n\
+    , no room left for another property name\n\
+    , no room left for another phandle\n\
+    , the record and the buffers do not match\n\
+    , the blob is already finished\n\
+    , there can be at most 64 reservations";
 
 // What is refused, by its place in `verbs`.
 const CALLS: [u8; 200] = *b"reserve refused \n\
