@@ -10,7 +10,7 @@ use text_calls::line::Line;
 use text_calls::room;
 use text_calls::verbs;
 
-// Opens the writer anew with one reservation more.
+// Opens the writer again, with one reservation more.
 fn reserve(d: Desk, address: u64, size: u64) -> Desk {
     let used = d.used;
     let mut pairs = d.pairs;

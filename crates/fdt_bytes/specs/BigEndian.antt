@@ -13,7 +13,7 @@ unfoldable pub fromBigEndian : List ℕ → ℕ
 fromBigEndian [] = 0
 fromBigEndian (b ∷ bs) = b * 256 ^ length bs + fromBigEndian bs
 
--- the number of a width at a place
+-- the number of a width at a place; if the bytes end earlier, the number of those that are left
 unfoldable pub numberAt : ℕ → List ℕ → ℕ → ℕ
 numberAt width bytes at = fromBigEndian (take width (drop at bytes))
 

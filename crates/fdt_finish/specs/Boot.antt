@@ -12,6 +12,6 @@ use Rattle.fdt_record.specs.Tests.{aloneRows}
 unfoldable pub bootAnswer : Record → Answer
 bootAnswer w = first (aloneRows w)
 
--- the answer and the record, with the boot number set where accepted
+-- the answer and the record, with the boot number set if accepted
 unfoldable pub boot : Record → ℕ → Outcome
 boot w n = record { answer = bootAnswer w; after = upon (bootAnswer w) (withBoot n w) w }

@@ -12,6 +12,6 @@ unfoldable pub showable : Record → ℕ → Bool
 showable w lent =
     w .finished && (eqb (usable blobCeiling lent) (w .«blob_room») && leb (w .«blob_used») (w .«blob_room»))
 
--- the front of the lent buffer, used length long, where it can be shown; otherwise an empty part
+-- the front of the lent buffer, used length long, if it can be shown; otherwise an empty part
 unfoldable pub shown : Record → List ℕ → List ℕ
 shown w blob = cond (showable w (length blob)) (take (w .«blob_used») blob) []

@@ -102,7 +102,7 @@ nodes-exactly es f = (
 
 -- ---- events in order
 
--- where so many nodes are open, and whether a node was ended last: properties come before children, and every node ends
+-- by how many nodes are open, and whether a node was ended last: properties come before children, and every node ends
 unfoldable pub Accepted : ℕ → Bool → List Event → Type 0
 Accepted depth ended [] = depth ≡ 0
 Accepted depth ended (begins name ∷ es) = Accepted (suc depth) false es

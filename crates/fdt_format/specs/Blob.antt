@@ -84,7 +84,7 @@ Plain (begins name) = NoZero name
 Plain (has (name ≔ value)) = NoZero name
 Plain ends = Unit {0}
 
--- no name of any event has one
+-- no name of any event has a byte 0
 unfoldable pub AllPlain : List Event → Type 0
 AllPlain [] = Unit {0}
 AllPlain (e ∷ es) = Plain e × AllPlain es

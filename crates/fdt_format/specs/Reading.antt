@@ -43,7 +43,7 @@ goodAreas a n =
     && leb (a .«structure_end») n
     && leb (a .«strings_end») n
 
--- both
+-- both the words and the areas are good
 unfoldable pub goodHeader : List ℕ → Bool
 goodHeader b = goodWords b && goodAreas (areasOf b) (length b)
 

@@ -10,7 +10,7 @@ use lib.ListN.{length, drop, getD}
 use lib.Seq.{drop-cons}
 use Rattle.fdt_names.specs.Grammar.{Grammar, nothing, fromTo, _then_, _or_, all, inTwo, matches}
 
--- s in two parts, of which the first passes p and the rest passes q
+-- s in two parts: the first passes p, and the rest passes q
 pub record Cut (p q : List ℕ → Bool) (s : List ℕ) : Type 0 where
   pub front : List ℕ
   pub back : List ℕ

@@ -38,7 +38,7 @@ beginRows w lent name =
 unfoldable pub beginAnswer : Record → ℕ → List ℕ → Answer
 beginAnswer w lent name = first (beginRows w lent name)
 
--- the answer, the handle (the depth just after the node began, 0 where refused) and the record
+-- the answer, the handle (the depth just after the node began, 0 if refused) and the record
 unfoldable pub begin : Record → List ℕ → List ℕ → Begun
 begin w blob name = record {
   answer = beginAnswer w (length blob) name;

@@ -1,4 +1,4 @@
--- Laws of recording a phandle: one turn of the search, exactly when each answer is given, what passing tells, and where the table changes.
+-- Laws of recording a phandle: one turn of the search, exactly when each answer is given, what passing shows, and where the table changes.
 use mathlib.Core.Path.{_≡_, refl, ap, _∙_}
 use mathlib.Core.Bool.{Bool, true, false, cond, _||_}
 use mathlib.Core.List.{List}
@@ -42,7 +42,7 @@ refusals : (w : Record) (lent : ℕ) (strings table : List ℕ) (value : ℕ) �
 unfolding recordRows stringsRows blobRows aloneRows Refusals accepts
 refusals w lent strings table value = (refl, (refl, (refl, (refl, (refl, (refl, (refl, tt)))))))
 
--- what a value that may be recorded passed, in a table of so many entries
+-- what holds if a value may be recorded, in a table of this length
 pub record RecordFits (w : Record) (entries : ℕ) : Type 0 where
   pub phandles : FitPhandles w entries
   pub room : w .«phandles_used» < w .«phandles_room»
@@ -66,7 +66,7 @@ module _ (w : Record) (lent : ℕ) (strings table : List ℕ) (value : ℕ) wher
         room = leb-false (w .«phandles_room») (w .«phandles_used») (n .1 .1 .0);
       }
 
-  -- a value that was recorded stands at the count
+  -- a value that was recorded is at the count
   pub table-at-count : recordAnswer w lent strings table value ≡ Done → getD (phandleTable w lent strings table value) (w .«phandles_used») 0 ≡ value
   unfolding phandleTable
   table-at-count e =
@@ -87,7 +87,7 @@ module _ (w : Record) (lent : ℕ) (strings table : List ℕ) (value : ℕ) wher
   table-length =
       either length (accepts (recordAnswer w lent strings table value)) (set table (w .«phandles_used») value) table (length table) (length-set table (w .«phandles_used») value) refl
 
--- a refusal that was told, with the record as it was
+-- the outcome of a refusal: its answer, with the record as it was
 pub refused-outcome :
     (a b : Answer) (told : a ≡ b) (accepted : Outcome) (w : Record) →
     accepts a ≡ false →

@@ -17,7 +17,7 @@ use Rattle.fdt_phandles.specs.Phandle as of-phandle
 use Rattle.fdt_finish.specs.Boot as of-boot
 use Rattle.fdt_finish.specs.Finish as of-finish
 
--- the public calls, with what they are given beside the record and the buffers
+-- the public calls, with what they are given besides the record and the buffers
 pub data Call : Type 0 where
   new : Call
   new-with-mem-reserv : List ℕ → Call
@@ -66,7 +66,7 @@ asks (property-phandle value) = to-mark value
 asks finish = to-finish
 asks show = to-show
 
--- the effect of a request beside its answer and its bytes
+-- the effect of a request, besides its answer and its bytes
 pub data Effect : Type 0 where
   opens : Effect
   sets-boot : ℕ → Effect

@@ -81,13 +81,13 @@ boots n c = bootAfter n (effect c)
 unfoldable pub bootOf : List Request → ℕ
 bootOf cs = foldl boots 0 cs
 
--- the reservations that numbers stand for, address and size in turn
+-- the reservations that numbers give, address and size in turn
 unfoldable pub reservationsOf : List ℕ → List Reservation
 reservationsOf [] = []
 reservationsOf (address ∷ []) = []
 reservationsOf (address ∷ size ∷ numbers) = reserved address size ∷ reservationsOf numbers
 
--- a description with these nodes, if there are any to describe
+-- a description with these nodes; none if the events are not those of nodes
 unfoldable pub withNodes : List Reservation → ℕ → Option Nodes → Option Description
 withNodes rs n none = none
 withNodes rs n (some nodes) = some (record { reservations = rs; boot = n; nodes = nodes })
@@ -144,7 +144,7 @@ pub record Holds (numbers : List ℕ) (es : List Event) (boot : ℕ) (phandles :
 
 -- ---- a run
 
--- a call that may stand in a run: no opening, and a boot number of 32 bits, as the argument's type has it
+-- a call that may be part of a run: no opening, and a boot number of 32 bits, as the argument's type says
 unfoldable pub InRun : Effect → Type 0
 InRun opens = ⊥
 InRun (sets-boot n) = n < 2 ^ 32
@@ -152,7 +152,7 @@ InRun (adds e) = Unit {0}
 InRun (records value) = Unit {0}
 InRun nothing = Unit {0}
 
--- every call may
+-- every call may be part of a run
 unfoldable pub AllInRun : List Request → Type 0
 AllInRun [] = Unit {0}
 AllInRun (c ∷ cs) = InRun (effect c) × AllInRun cs

@@ -75,7 +75,7 @@ long n = 97 ∷ replicate n 98
 unfoldable pub last : ℕ
 last = 2 ^ 64 - 1
 
--- the starred cases, in document 01's order, each with the rest of its line there
+-- the starred cases, in document 01's order, with the two that continue one: begin at depth 64, and 59 bytes lent
 unfoldable pub starred : List Case
 starred =
     -- base name of 31 bytes taken, 32 refused 10; a@ taken; @1 and 1a refused 10

@@ -43,7 +43,7 @@ stored-at (Known offset) name strings = refl
 stored-at (New offset) name strings = simp (ne-eqb (length (entry name)) 0 (λ e. omega (arith, length-entry name)))
 stored-at StringRoom name strings = refl
 
--- where a name stands or goes, in strings that the record fits
+-- the place of a name, known or new, in strings that the record fits
 pub record Settled (w : Record) (strings name : List ℕ) (place : Interned) : Type 0 where
   pub fits : NameFits (placeOffset place) (added place name) name strings
   pub offset : placeOffset place ≤ stringsCeiling

@@ -1,5 +1,5 @@
 -- The tests of a property in two steps: those that do not search the strings, and then those of the rooms. What is said of
--- the answer holds of every value that is measured so.
+-- the answer holds for every value with these figures.
 use mathlib.Core.Path.{_≡_, refl, sym, ap, _∙_}
 use mathlib.Core.Bool.{Bool, true, false, true≢false}
 use mathlib.Core.List.{List, [], _∷_, _++_}
@@ -33,7 +33,7 @@ pub record FirstFits (w : Record) (blob strings : List ℕ) (misfit : Bool) : Ty
   pub names : FitStrings w strings
   pub in-order : misfit ≡ false
 
--- the record after a value of so many bytes, whose name adds so many to the strings
+-- the record after a property, by the length of its value and the bytes that its name adds to the strings
 abbrev grown : Record → ℕ → ℕ → Record
 grown w len more = withUsedStrings (w .«strings_used» + more) (withUsedBlob (w .«blob_used» + (12 + roundUp 4 len)) w)
 

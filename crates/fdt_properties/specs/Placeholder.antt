@@ -1,4 +1,5 @@
--- A property is written in two steps, a placeholder and then its value. What the functions of these steps promise each other.
+-- A property is written in two steps, a placeholder and then its value. What the functions of these steps promise each other;
+-- no statement of a public call uses it.
 use mathlib.Core.Path.{_≡_}
 use mathlib.Core.Bool.{true, false, cond}
 use mathlib.Core.List.{List, [], _∷_}

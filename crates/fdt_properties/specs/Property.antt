@@ -25,7 +25,7 @@ use Rattle.fdt_record.specs.Misfits.{overfull}
 use Rattle.fdt_record.specs.Rows.{Row, _⇒_, first}
 use Rattle.fdt_record.specs.Tests.{stringsRows}
 
--- the name's place: where it stands in the used strings, or would stand
+-- the name's place: its offset in the used strings, the offset for a new name, or no room
 unfoldable pub placeOf : Record → List ℕ → List ℕ → Interned
 placeOf w strings name = interned (take (w .«strings_used») strings) (w .«strings_room») name
 
@@ -59,7 +59,7 @@ propertyRecord w strings name v =
     withUsedStrings (w .«strings_used» + added (placeOf w strings name) name)
     (withUsedBlob (w .«blob_used» + length (written w strings name v)) w)
 
--- the tests of the record and of the value, in their order; `misfit` and `zero` are the value's
+-- the tests of the record and of the value, in their order; `misfit` and `zero` are what the tests of the value find
 unfoldable pub stateRows : Record → ℕ → List ℕ → Bool → Bool → List Row
 stateRows w lent strings misfit zero =
     stringsRows w lent strings
@@ -78,7 +78,7 @@ unfoldable pub roomRows : Record → List ℕ → List ℕ → Value → List Ro
 roomRows w strings name v =
     (isFull (placeOf w strings name) ⇒ StringRoom) ∷ (overfull (propertyRecord w strings name v) ⇒ BlobRoom) ∷ []
 
--- all tests
+-- all tests, in their order
 unfoldable pub propertyRows : Record → List ℕ → List ℕ → List ℕ → Value → List Row
 propertyRows w blob strings name v =
     (stateRows w (length blob) strings (misfitValue v) (zeroValue v) ++ nameRows name) ++ roomRows w strings name v

@@ -11,7 +11,7 @@ use Rattle.bytes.specs.Bytes.{indexOf, indexAfter, slice}
 use Rattle.fdt_format.specs.Step.{zeroFrom}
 use Rattle.fdt_format.proofs.Steps.{zero-ge}
 
--- here, or so much further
+-- here, or this much further
 here : (t : Bool) (at k : ℕ) → cond t at (suc at + k) ≡ at + indexAfter t k
 unfolding indexAfter
 here true at k = omega arith

@@ -73,7 +73,7 @@ accepts-done Misfit e = absurd (true≢false (sym e))
 accepts-done Finished e = absurd (true≢false (sym e))
 accepts-done TooManyReservations e = absurd (true≢false (sym e))
 
--- the tags of the refusals, as an arm for all of them has them
+-- the tags of the refusals, as one arm for all of them has them
 abbrev refusalTags : List ℕ
 refusalTags = 1 ∷ 2 ∷ 3 ∷ 4 ∷ 5 ∷ 6 ∷ 7 ∷ 8 ∷ 9 ∷ 10 ∷ 11 ∷ 12 ∷ 13 ∷ 14 ∷ 15 ∷ 16 ∷ 17 ∷ 18 ∷ 19 ∷ []
 

@@ -6,7 +6,7 @@ use borrow.Author.Tests.{eq-eqb, ne-eqb}
 use lib.Dec.{eqb}
 use Rattle.fdt_record.specs.Limits.{usable}
 
--- what was computed is the usable length, and the recorded room is it, or is not
+-- the computed length is the usable one, and the recorded room equals it or not
 module _ (ceiling lent room : ℕ) {r : ℕ} (computed : r ≡ usable ceiling lent) where
   pub usable-is : r ≡ room → eqb (usable ceiling lent) room ≡ true
   usable-is e = eq-eqb (usable ceiling lent) room (sym computed ∙ e)

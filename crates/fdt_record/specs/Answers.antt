@@ -50,6 +50,6 @@ accepts Misfit = false
 accepts Finished = false
 accepts TooManyReservations = false
 
--- the first where a call is accepted, the second where it is refused
+-- the first if the call is accepted, the second if it is refused
 abbrev pub upon : {A : Type 0} → Answer → A → A → A
 upon answer accepted refused = cond (accepts answer) accepted refused

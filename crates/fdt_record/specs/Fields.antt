@@ -14,7 +14,7 @@ pub data Field : Type 0 where
   ended : Field
   mark : Field
 
--- a number for each, by which two are told apart
+-- a number for each field, to compare two
 abbrev numbered : Field → ℕ
 numbered used-blob = 0
 numbered used-strings = 1

@@ -20,18 +20,18 @@ misfitRoom ceiling lent room used = not (eqb (usable ceiling lent) room) || ltb 
 unfoldable pub offStructure : (reservations place : ℕ) → Bool
 offStructure reservations place = not (eqb (place % 4) 0) || ltb place (structureStart reservations)
 
--- of the blob: or used is a place outside the structure
+-- of the blob: either of these, or used is outside the structure
 unfoldable pub misfitBlob : Record → ℕ → Bool
 misfitBlob w lent =
     misfitRoom blobCeiling lent (w .«blob_room») (w .«blob_used») || offStructure (w .reservations) (w .«blob_used»)
 
--- of the strings: or used is non-zero with a last used byte other than 0
+-- of the strings: either of these, or used is non-zero with a last used byte other than 0
 unfoldable pub misfitStrings : Record → List ℕ → Bool
 misfitStrings w strings =
     misfitRoom stringsCeiling (length strings) (w .«strings_room») (w .«strings_used»)
     || (not (eqb (w .«strings_used») 0) && not (eqb (getD strings (w .«strings_used» - 1) 0) 0))
 
--- of the phandles: for no other reason
+-- of the phandles: either of these
 unfoldable pub misfitPhandles : Record → ℕ → Bool
 misfitPhandles w lent = misfitRoom phandlesCeiling lent (w .«phandles_room») (w .«phandles_used»)
 

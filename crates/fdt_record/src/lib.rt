@@ -21,7 +21,7 @@ pub const PHANDLES_CEILING: usize = 256;
 // The most reservations.
 pub const MAX_RESERVATIONS: usize = 64;
 
-// The same max depth as in the Linux kernel.
+// The greatest depth, the same as in the Linux kernel.
 pub const FDT_MAX_NODE_DEPTH: usize = 64;
 
 // What a writer knows of the calls so far and of its buffers: of each the usable length at opening (room) and how much is used.
@@ -84,7 +84,7 @@ pub enum Answer {
     TooManyReservations,
 }
 
-// An answer beside the new record.
+// An answer, and the new record.
 pub struct Outcome {
     pub answer: Answer,
     pub after: Record,

@@ -66,7 +66,7 @@ module _ (test : ℕ → Bool) where
       go (yes l) f = simp (f l, or-true)
       go (no m) f = let q : k ≡ n = omega arith in simp (ap test (sym q) ∙ e)
 
-  -- one more number of which it is false
+  -- one more number for which it is false
   pub some-more : (n : ℕ) → some n test ≡ false → test n ≡ false → some (n + 1) test ≡ false
   unfolding some
   some-more n h e = rw (add-one n) (simp (e, h))

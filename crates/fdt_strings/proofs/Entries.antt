@@ -1,4 +1,4 @@
--- Laws of the strings area: strings fall into entries, entries make strings again, and the offset at which a name is found.
+-- Laws of the strings area: strings split into entries, entries join to strings again, and the offset at which a name is found.
 use mathlib.Core.Path.{_≡_, refl, sym, ap, _∙_}
 use mathlib.Core.Bool.{Bool, true, false, cond, and-eq-true-iff, false≢true, true≢false}
 use mathlib.Core.List.{List, [], _∷_, _++_, append-assoc, append-nil, List·Memᴰ, List·Memᴰ·head, List·Memᴰ·tail}
@@ -42,7 +42,7 @@ ne-same s t h = go (same s t) refl
     go true e = absurd (h (same-eq s t e))
     go false e = refl
 
--- ---- strings fall into entries
+-- ---- strings split into entries
 
 -- no entry has a byte 0
 pub data Plain : List (List ℕ) → Type 0 where
@@ -91,7 +91,7 @@ entries-plain (b ∷ s) = go (eqb b 0) refl (entries s) (entries-plain s)
     go false e [] p = no-entry
     go false e (x ∷ es) (next-entry n p) = let h : 0 < b = omega (arith, eqb-false b 0 e) in next-entry (next-byte h n) p
 
--- ---- entries make strings again
+-- ---- entries join to strings again
 
 pub joined-append : (es fs : List (List ℕ)) → joined (es ++ fs) ≡ joined es ++ joined fs
 unfolding joined
@@ -217,7 +217,7 @@ first-after name k (e ∷ es) fs h =
     let n : k + (length e + 1) + length (joined es) ≡ k + length (entry e ++ joined es) = simp length-append (omega (arith, length-entry e)) in
     simp (m .0) (first-after name (k + (length e + 1)) es fs (m .1) ∙ ap (λ (j : ℕ). firstFrom j fs name) n)
 
--- the name is found at i among entries of which the first is at k
+-- the name is found at i among entries whose first is at k
 record Among (k : ℕ) (es : List (List ℕ)) (name : List ℕ) (i : ℕ) : Type 0 where
   before : List (List ℕ)
   behind : List (List ℕ)

@@ -19,7 +19,7 @@ unfoldable pub orElse : Found → Interned → Interned
 orElse (At offset) other = Known offset
 orElse Nothing other = other
 
--- what `intern_string` returns, with these strings used of so much room
+-- what `intern_string` returns: the name is found in the used strings, or is placed after them
 unfoldable pub interned : List ℕ → ℕ → List ℕ → Interned
 interned used room name = orElse (findString used name) (place used room name)
 

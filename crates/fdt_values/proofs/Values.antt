@@ -29,13 +29,13 @@ sum-more ns i h = rw (add-one i, take-suc ns i 0 h) (omega (arith, sum-append (t
 pub sum-within : (i : ℕ) (ns : List ℕ) → sum (take i ns) ≤ sum ns
 sum-within i ns = omega (arith, sum-append (take i ns) (drop i ns), ap sum (take-append-drop i ns))
 
--- what is left of a total after the first i numbers: it is 0 at the end just where the total is the sum
+-- what is left of a total after the first i numbers: it is 0 at the end exactly when the total is the sum
 pub none-left : (ns : List ℕ) (i left total : ℕ) → length ns ≤ i → left + sum (take i ns) ≡ total → eqb left 0 ≡ eqb (sum ns) total
 none-left ns i zero total h e = sym (eq-eqb (sum ns) total (omega (arith, ap sum (take-all i ns h))))
 none-left ns i (suc k) total h e =
     ne-eqb (suc k) 0 (λ z. omega arith) ∙ sym (ne-eqb (sum ns) total (λ z. omega (arith, ap sum (take-all i ns h))))
 
--- where it is less than the next number, the total is not the sum
+-- if it is less than the next number, the total is not the sum
 pub too-little : (ns : List ℕ) (i left total : ℕ) → i < length ns → left + sum (take i ns) ≡ total → left < getD ns i 0 → false ≡ eqb (sum ns) total
 too-little ns i left total h e l = sym (ne-eqb (sum ns) total (λ z. omega (arith, sum-more ns i h, sum-within (i + 1) ns)))
 

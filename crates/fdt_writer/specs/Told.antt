@@ -1,4 +1,4 @@
--- What a call of the writer tells, as the outcomes of the layers below have it.
+-- What a call of the writer returns, as an outcome of the layers below.
 use Rattle.fdt_record.specs.declared.Outcome.{Outcome}
 use Rattle.fdt_nodes.specs.declared.Begun.{Begun}
 use Rattle.fdt_writer.specs.declared.Answered.{Answered}

@@ -63,7 +63,7 @@ fn wrapped_node(o: Begun) -> NodeAnswered
 
 impl FdtWriter {
     // Opens a writer over a blob buffer, a string buffer and a table of phandles, with no memory reservations.
-    // Refused 14 only. A refused opening returns a closed writer, which every call but `show` refuses.
+    // Refused 14 only. A refused opening returns a closed writer, which every call except `show` refuses.
     pub fn new(blob: &mut [u8], strings: &[u8], phandles: &[u32]) -> Answered
         ensures { λ r. ⌜ OpeningOutcome (now (blob .entry)) (length (now (strings .entry))) (length (now (phandles .entry))) [] (told r) (now (blob .exit)) ⌝ }
     {
@@ -230,7 +230,7 @@ impl FdtWriter {
         wrapped(fdt_finish::finish(self.0, blob, strings))
     }
 
-    // Shows the finished blob, which is the front of the lent buffer. Of a writer that is not finished, or does not fit the buffer, it shows an empty part.
+    // Shows the finished blob, which is the front of the lent buffer. If the writer is not finished, or does not fit the buffer, shows an empty part.
     // Never refused.
     pub fn show(self, blob: &[u8]) -> &[u8]
         ensures { λ r. ⌜ now r ≡ shown (self .0) (now (blob .entry)) ⌝ }

@@ -1,4 +1,4 @@
-// The writer's calls that are about no property, with what a line gives them.
+// The calls that write no property, with the arguments that a line gives.
 use crate::desk::Desk;
 use crate::desk::answered;
 use crate::desk::within;

@@ -1,4 +1,4 @@
-// What a line changes for the calls after it: the arrays, how much of them is lent, the record, how lines are told.
+// What a line changes for the calls after it: the arrays, how much of them is lent, the record, how lines are reported.
 use crate::desk::Desk;
 use crate::fields;
 use crate::room;
@@ -7,7 +7,7 @@ use fdt_writer::FdtWriter;
 use text_lines::numbers;
 use text_lines::spelling;
 
-// Writes the line's bytes from its place on.
+// Writes the line's bytes into an array, from the place that the line gives.
 fn put(s: &mut [u8], line: &[u8]) {
     let at = numbers::number(line, 1) as usize;
     if at < s.len() {
@@ -15,7 +15,7 @@ fn put(s: &mut [u8], line: &[u8]) {
     }
 }
 
-// Writes the line's numbers from its place on.
+// Writes the line's numbers into a table, from the place that the line gives.
 fn put_table(t: &mut [u32], line: &[u8]) {
     let at = numbers::number(line, 1) as usize;
     if at < t.len() {

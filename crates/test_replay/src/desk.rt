@@ -62,14 +62,14 @@ pub fn answered(mut d: Desk, a: Answered) -> Desk {
     d
 }
 
-// How much of a buffer is lent: so many bytes, or all.
+// How many bytes of a buffer are lent: `n`, or all if there are fewer.
 pub fn within(n: usize, s: &[u8]) -> usize
     ensures { λ r. ⌜ Counts r (now (s .entry)) ⌝ }
 {
     if n < s.len() { n } else { s.len() }
 }
 
-// How much of a table is lent: so many entries, or all.
+// How many entries of a table are lent: `n`, or all if there are fewer.
 pub fn within_table(n: usize, t: &[u32]) -> usize
     ensures { λ r. ⌜ Counts r (now (t .entry)) ⌝ }
 {

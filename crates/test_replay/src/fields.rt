@@ -26,7 +26,7 @@ pub fn apart(r: Record) -> [u64; 11] {
     ]
 }
 
-// A record in which the field at a place has a number.
+// A record with one field set, given by its place among the names.
 fn with(before: Record, place: usize, n: u64) -> Record {
     let mut r = before;
     match place {
@@ -46,13 +46,13 @@ fn with(before: Record, place: usize, n: u64) -> Record {
     r
 }
 
-// A record as a line sets it.
+// A record with the field set that the line names.
 pub fn set(r: Record, line: &[u8]) -> Record {
     let place = text_words::place(&NAMES, 11, text_words::word(line, 1));
     with(r, place, numbers::number(line, 2))
 }
 
-// Writes the names of the fields, or each with its number; a space before the first where it is led.
+// Writes the names of the fields, or each with its number; with `led`, a space comes first.
 pub fn look(r: Record, verb: usize, led: bool) {
     if verb == verbs::FIELDS {
         said::gap(led);

@@ -23,7 +23,7 @@ fn after(d: Desk, verb: usize, line: &[u8]) -> Desk {
     }
 }
 
-// Runs a line, and tells of it; `aloud` and `quiet` themselves are not told.
+// Runs a line and writes its output; `aloud` and `quiet` have none.
 fn run(d: Desk, line: &[u8]) -> Desk {
     let verb = verbs::asked(line);
     let next = after(d, verb, line);

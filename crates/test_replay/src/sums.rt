@@ -24,7 +24,7 @@ fn with_cell(sum: u64, n: u32) -> u64 {
     with(third, (n % 256) as u8)
 }
 
-// The check value of so many bytes at the front of a buffer, or of all.
+// The check value of the first `most` bytes of a buffer, or of all if there are fewer.
 pub fn bytes(s: &[u8], most: usize) -> u64 {
     let mut sum = EMPTY;
     let mut i = 0;
@@ -35,7 +35,7 @@ pub fn bytes(s: &[u8], most: usize) -> u64 {
     sum
 }
 
-// The same of so many entries of a table.
+// The same for the entries of a table.
 pub fn table(t: &[u32], most: usize) -> u64 {
     let mut sum = EMPTY;
     let mut i = 0;

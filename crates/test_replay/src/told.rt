@@ -1,4 +1,4 @@
-// What is written of a line.
+// The output for a line.
 use crate::desk::Desk;
 use crate::fields;
 use crate::looks;
@@ -35,7 +35,7 @@ fn answer(verb: usize, number: u64, handle: u64) {
     }
 }
 
-// Writes a line again, if lines are told aloud.
+// Writes a line again, in the mode `aloud`.
 fn again(aloud: bool, verb: usize, line: &[u8]) {
     if aloud {
         said::text(line);
@@ -45,7 +45,7 @@ fn again(aloud: bool, verb: usize, line: &[u8]) {
     }
 }
 
-// Writes what is to be told of a line that was run.
+// Writes the output for a line that was run.
 pub fn line(d: Desk, verb: usize, line: &[u8]) {
     again(d.aloud, verb, line);
     if verbs::SHOW <= verb {

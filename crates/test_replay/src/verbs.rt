@@ -44,7 +44,7 @@ pub const PHANDLES: usize = 19;
 
 pub const FIELDS: usize = 20;
 
-// What the next call is given, and how it is told.
+// What the next calls are given, and how they are reported.
 pub const BUFFERS: usize = 21;
 
 pub const LEND: usize = 22;

@@ -3,7 +3,7 @@ ghost use Rattle.io.specs.Counts.{Counts};
 use crate::numbers;
 use crate::texts;
 
-// Writes the bytes of strings, or of a line of bytes, into the front of a buffer: how many there are.
+// Writes the bytes of strings, or of a line of bytes, into the front of a buffer, and returns how many there are.
 pub fn bytes(line: &[u8], hex: bool, out: &mut [u8]) -> usize
     ensures { λ r. ⌜ Counts r (now (out .exit)) ⌝ }
 {

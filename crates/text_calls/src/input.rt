@@ -3,7 +3,8 @@ ghost use Rattle.io.specs.Counts.{Counts};
 use crate::told;
 use libc::STDIN_FILENO;
 
-// Reads standard input to its end: how many bytes. The whole length if it cannot be read or does not fit, which is said.
+// Reads standard input to its end, and returns how many bytes it has. If it cannot be read or does not fit, a message says so,
+// and the whole length is returned.
 pub fn read(out: &mut [u8]) -> usize
     ensures { λ r. ⌜ Counts r (now (out .exit)) ⌝ }
 {

@@ -1,4 +1,4 @@
-// Call lists: what a line asks for, the values that it gives, and what is said of a line that is wrong or refused.
+// Call lists: what a line asks for, the values that it gives, and the message for a line that is wrong or refused.
 pub mod given;
 pub mod input;
 pub mod line;

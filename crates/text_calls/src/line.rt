@@ -5,8 +5,8 @@ use crate::texts;
 use crate::texts::Texts;
 use crate::verbs;
 
-// The call; where its name begins and ends, and where its values begin; its last two numbers; whether the line is a call
-// that the list's form allows, or makes none.
+// The call; where its name begins and ends, and where its values begin; its last two numbers; whether the line is right:
+// a call in its form, or no call.
 pub struct Line {
     pub verb: usize,
     pub name: usize,
@@ -17,7 +17,7 @@ pub struct Line {
     pub right: bool,
 }
 
-// Where a run of blanks ends, or one of other bytes.
+// Where the run of blanks at `from` ends or, without `blanks`, the run of other bytes.
 fn run_end(line: &[u8], from: usize, blanks: bool) -> usize {
     let mut at = from;
     while at < line.len() {
@@ -40,7 +40,7 @@ fn numbers_of(line: &[u8], from: usize, most: u64) -> Numbers {
     numbers::step(v, b' ', most)
 }
 
-// The same of strings, or of bytes.
+// The same for strings, or for bytes.
 fn texts_of(line: &[u8], from: usize, hex: bool) -> Texts {
     let mut v = texts::none();
     let mut i = from;
@@ -51,7 +51,7 @@ fn texts_of(line: &[u8], from: usize, hex: bool) -> Texts {
     texts::step(v, b' ', hex)
 }
 
-// Whether a call takes so many values.
+// Whether a call takes this number of values.
 fn takes(verb: usize, count: usize) -> bool {
     match verb {
         verbs::END | verbs::BEGIN | verbs::NULL => count == 0,
@@ -84,7 +84,7 @@ pub fn cut(line: &[u8]) -> &[u8] {
     text_words::part(line, 0, to)
 }
 
-// The call of a line and its name; a line without a call is right.
+// The call of a line and its name; a line that makes no call is right.
 fn head(line: &[u8]) -> Line {
     let from = run_end(line, 0, true);
     let to = run_end(line, from, false);
@@ -124,7 +124,7 @@ pub fn read(line: &[u8]) -> Line {
     l
 }
 
-// The name of a line; two double quotes are the empty one.
+// The name of a line; `""` is the empty name.
 pub fn name(line: &[u8], from: usize, to: usize) -> &[u8] {
     let word = text_words::part(line, from, to);
     if check::same(word, b"\"\"") {

@@ -24,7 +24,7 @@ pub fn none() -> Numbers {
     }
 }
 
-// Whether a byte stands between words.
+// Whether a byte separates words.
 pub fn blank(b: u8) -> bool {
     b == b' ' || b == b'\t'
 }
@@ -90,7 +90,7 @@ pub fn step(v: Numbers, b: u8, most: u64) -> Numbers {
     }
 }
 
-// Whether a line can end here, behind a blank.
+// Whether a line can end here, after a blank.
 pub fn whole(v: Numbers) -> bool {
     v.state == GAP || v.state == COMMENT
 }

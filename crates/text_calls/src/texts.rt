@@ -7,10 +7,10 @@ const GAP: u8 = 0;
 // In a string.
 const TEXT: u8 = 1;
 
-// Behind a backslash.
+// After a backslash.
 const ESCAPE: u8 = 2;
 
-// Behind a value.
+// After a value.
 const CLOSED: u8 = 3;
 
 const COMMENT: u8 = 4;
@@ -112,7 +112,7 @@ fn in_text(v: Texts, b: u8) -> Texts {
     }
 }
 
-// A byte behind a backslash.
+// A byte after a backslash.
 fn in_escape(v: Texts, b: u8) -> Texts {
     match b {
         b'"' | b'\\' => put(v, b, TEXT),
@@ -124,7 +124,7 @@ fn in_escape(v: Texts, b: u8) -> Texts {
     }
 }
 
-// The values with one byte more of the line; `hex` where they are bytes.
+// The values with one byte more of the line; `hex` says that they are bytes.
 pub fn step(v: Texts, b: u8, hex: bool) -> Texts {
     let state = v.state;
     match state {
@@ -137,7 +137,7 @@ pub fn step(v: Texts, b: u8, hex: bool) -> Texts {
     }
 }
 
-// Whether a line can end here, behind a blank.
+// Whether a line can end here, after a blank.
 pub fn whole(v: Texts) -> bool {
     v.state == GAP || v.state == COMMENT
 }

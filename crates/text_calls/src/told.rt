@@ -1,4 +1,4 @@
-// What is said of a list that is wrong or refused: one line on standard error.
+// The message for a list that is wrong or refused: one line on standard error.
 use libc::STDERR_FILENO;
 
 // What each refusal means, by its number.
@@ -23,7 +23,7 @@ const REFUSALS: [u8; 795] = *b"\n\
     , the blob is already finished\n\
     , there can be at most 64 reservations";
 
-// What is refused, by its place in `verbs`.
+// The call that is refused, by its place in `verbs`.
 const CALLS: [u8; 200] = *b"reserve refused \n\
     boot refused \n\
     phandle refused \n\
@@ -38,7 +38,7 @@ const CALLS: [u8; 200] = *b"reserve refused \n\
     \n\
     finish refused ";
 
-// What a call should look like, by its place in `verbs`; what any other word is; a reservation that comes late.
+// The form of each call, by its place in `verbs`; then the messages for any other word and for a late reservation.
 const FORMS: [u8; 605] = *b"expected: reserve ADDRESS SIZE\n\
     expected: boot N, at most 4294967295\n\
     expected: phandle N, at most 4294967295\n\
@@ -53,15 +53,15 @@ const FORMS: [u8; 605] = *b"expected: reserve ADDRESS SIZE\n\
     no such call: expected reserve, boot, begin, string, strings, u32, u64, bytes, null, phandle or end\n\
     reserve must come before all other calls";
 
-// The place of the last of them.
+// The place of the last of them: a late reservation.
 pub const LATE: usize = 12;
 
-// Bytes as they are.
+// Writes bytes as they are.
 pub fn text(s: &[u8]) {
     io::write_all(STDERR_FILENO, s);
 }
 
-// Line n of the list, and row k of what can be said of it.
+// Writes the number n of a line, and row k of the messages.
 fn line(n: u64, rows: &[u8], k: usize) {
     text(b"line ");
     io::print_decimal(STDERR_FILENO, n);
@@ -69,13 +69,13 @@ fn line(n: u64, rows: &[u8], k: usize) {
     text(text_words::nth(rows, k, b'\n'));
 }
 
-// Line n is no call: what it should look like.
+// Says that line n is no call, and what form it should have.
 pub fn wrong(n: u64, form: usize) {
     line(n, &FORMS, form);
     text(b"\n");
 }
 
-// The call of line n is refused; at the end of the list, the finish.
+// Says that the call of line n is refused or, at the end of the list, the finish.
 pub fn refused(n: u64, verb: usize, refusal: u32) {
     line(n, &CALLS, verb);
     io::print_decimal(STDERR_FILENO, refusal as u64);

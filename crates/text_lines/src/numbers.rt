@@ -3,7 +3,7 @@ ghost use Prim.Native.Nat.{_≤_};
 ghost use Rattle.io.specs.Counts.{Counts};
 use text_words::number;
 
-// Where reading stands: in which word, the word's value so far, and its state as a number.
+// How far a line is read: the word's place in it, the word's value so far, and its state as a number.
 struct Word {
     place: usize,
     value: u64,
@@ -70,7 +70,7 @@ pub fn cell(line: &[u8], k: usize) -> u32 {
     low(number(line, k))
 }
 
-// Writes the words of a line from word `first` on as numbers into the front of a table: how many there are.
+// Writes the words of a line from word `first` on as numbers into the front of a table, and returns how many there are.
 pub fn numbers(line: &[u8], first: usize, out: &mut [u64]) -> usize
     ensures { λ r. ⌜ Counts r (now (out .exit)) ⌝ }
 {

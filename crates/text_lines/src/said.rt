@@ -1,8 +1,8 @@
 // Parts of a line, written to standard output.
 use libc::STDOUT_FILENO;
 
-// How bytes are written: as a word spells them, or in two digits each, with a space before the first alone; or in digits
-// with a space before every fourth, or before each.
+// How bytes are written: as a word spells them or in two digits each, with one space before all of them; or in two digits
+// each, with a space before every fourth or before each.
 pub enum Style {
     Letters,
     Digits,
@@ -16,7 +16,7 @@ struct Out {
     used: usize,
 }
 
-// Bytes as they are.
+// Writes bytes as they are.
 pub fn text(s: &[u8]) {
     io::write_all(STDOUT_FILENO, s);
 }
@@ -120,7 +120,7 @@ fn letters(style: Style) -> bool {
     }
 }
 
-// Bytes in a style; the space before the first only if it is led.
+// Writes bytes in a style; without `led`, no space comes first.
 pub fn bytes(s: &[u8], style: Style, led: bool) {
     let mut o = none();
     let mut i = 0;
@@ -132,7 +132,7 @@ pub fn bytes(s: &[u8], style: Style, led: bool) {
     flush(o);
 }
 
-// Numbers with a space between two, and one before the first if it is led.
+// Writes numbers with a space between two; with `led`, a space comes first.
 pub fn numbers(list: &[u64], led: bool) {
     let mut o = none();
     let mut i = 0;
@@ -148,7 +148,7 @@ fn wide(n: u32) -> u64 {
     n as u64
 }
 
-// The same of a table's numbers from one index up to another, as far as the table reaches.
+// The same for a table's numbers from one index up to another, as far as the table reaches.
 pub fn cells(t: &[u32], from: usize, to: usize, led: bool) {
     let mut o = none();
     let mut i = from;
@@ -159,7 +159,7 @@ pub fn cells(t: &[u32], from: usize, to: usize, led: bool) {
     flush(o);
 }
 
-// Words, each with a number of a list; a space before the first if it is led.
+// Writes words, each with a number of a list; with `led`, a space comes first.
 pub fn named(names: &[u8], list: &[u64], led: bool) {
     let mut k = 0;
     while k < list.len() {

@@ -2,7 +2,7 @@
 ghost use Rattle.io.specs.Counts.{Counts};
 use text_words::number;
 
-// Behind a backslash.
+// After a backslash.
 const ESCAPE: u8 = 1;
 
 // Before the first hexadecimal digit of a byte.
@@ -51,7 +51,7 @@ fn step(s: Spelled, b: u8) -> Spelled {
     }
 }
 
-// Writes the bytes that a word spells into the front of a buffer, as far as they fit: how many there are.
+// Writes the bytes that a word spells into the front of a buffer, as far as they fit, and returns how many there are.
 fn bytes(word: &[u8], out: &mut [u8]) -> usize
     ensures { λ r. ⌜ Counts r (now (out .exit)) ⌝ }
 {

@@ -1,10 +1,10 @@
-// Pieces of a text, each with one byte between two: the words of a line, the lines of a list. Numbers, digit by digit.
+// Pieces of a text, with one byte between two: the words of a line, the lines of a list. Numbers, digit by digit.
 pub mod number;
 
 ghost use Prim.Native.Nat.{_+_, _≤_, min};
 ghost use lib.ListN.{length};
 
-// Where the piece after the one at `from` begins, or the end; a byte `by` stands between two.
+// Where the piece after the one at `from` begins, or the end; `by` is the byte between two.
 pub fn next(s: &[u8], from: usize, by: u8) -> usize
     requires { ⌜ from ≤ length (now s) ⌝ }
     ensures { λ r. ⌜ (r ≤ length (now (s .entry))) × (min (from + 1) (length (now (s .entry))) ≤ r) ⌝ }

@@ -1,4 +1,4 @@
--- `property_phandle` meets its contract: refused before the value is recorded, nothing is altered; else the value stands at the count, and the property answers.
+-- `property_phandle` meets its contract: refused before the value is recorded, nothing is altered; otherwise the value is at the count, and the property answers.
 use mathlib.Core.Path.{_≡_, sym, _∙_}
 use mathlib.Core.Bool.{true}
 use borrow.Author.Tests.{not-true, not-false}

@@ -1,4 +1,4 @@
--- `property_placeholder` meets its contract: what passed tests tell is what the two writes require.
+-- `property_placeholder` meets its contract: the tests that were passed show what the two writes require.
 use mathlib.Core.Path.{_≡_, sym, _∙_}
 use mathlib.Core.Bool.{true}
 use borrow.Author.Needs.{needs}

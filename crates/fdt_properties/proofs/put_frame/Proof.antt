@@ -1,4 +1,4 @@
--- `put_frame` meets its contract: two writes that fit, the second behind the place of the value.
+-- `put_frame` meets its contract: two writes that fit, the second after the place of the value.
 use mathlib.Core.Path.{ap, _∙_}
 use Prim.Native.Nat.{_+_, _-_}
 use borrow.Author.Needs.{needs}
