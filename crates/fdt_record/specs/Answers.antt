@@ -1,6 +1,7 @@
 -- The numbers of document 01, "When the desk says no", for each answer.
 use Prim.Native.Nat.{ℕ}
-use mathlib.Core.Bool.{Bool, true, false, cond}
+use mathlib.Core.Bool.{Bool, cond}
+use lib.Dec.{eqb}
 use Rattle.fdt_record.specs.declared.Answer.{Answer}
 use Rattle.fdt_record.specs.declared.Answer.the-variants.{Done, PropertyBeforeBeginNode, PropertyAfterEndNode, PropertyValueTooLarge, TotalSizeTooLarge, InvalidString, OutOfOrderEndNode, UnclosedNode, InvalidMemoryReservation, OverlappingMemoryReservations, InvalidNodeName, InvalidPropertyName, NodeDepthTooLarge, DuplicatePhandle, BlobRoom, StringRoom, PhandleRoom, Misfit, Finished, TooManyReservations}
 
@@ -29,26 +30,7 @@ numberOf TooManyReservations = 19
 
 -- the answer is acceptance
 unfoldable pub accepts : Answer → Bool
-accepts Done = true
-accepts PropertyBeforeBeginNode = false
-accepts PropertyAfterEndNode = false
-accepts PropertyValueTooLarge = false
-accepts TotalSizeTooLarge = false
-accepts InvalidString = false
-accepts OutOfOrderEndNode = false
-accepts UnclosedNode = false
-accepts InvalidMemoryReservation = false
-accepts OverlappingMemoryReservations = false
-accepts InvalidNodeName = false
-accepts InvalidPropertyName = false
-accepts NodeDepthTooLarge = false
-accepts DuplicatePhandle = false
-accepts BlobRoom = false
-accepts StringRoom = false
-accepts PhandleRoom = false
-accepts Misfit = false
-accepts Finished = false
-accepts TooManyReservations = false
+accepts answer = eqb (numberOf answer) 0
 
 -- the first if the call is accepted, the second if it is refused
 abbrev pub upon : {A : Type 0} → Answer → A → A → A

@@ -4,55 +4,60 @@ use mathlib.Core.Bool.{Bool, cond}
 use lib.Dec.{eqb}
 use Rattle.fdt_record.specs.declared.Record.{Record}
 
--- the fields that calls set
-pub data Field : Type 0 where
-  used-blob : Field
-  used-strings : Field
-  used-phandles : Field
-  depth : Field
-  boot : Field
-  ended : Field
-  mark : Field
+-- the numbers that calls set
+pub data Number : Type 0 where
+  used-blob : Number
+  used-strings : Number
+  used-phandles : Number
+  depth : Number
+  boot : Number
 
--- a number for each field, to compare two
-abbrev numbered : Field → ℕ
-numbered used-blob = 0
-numbered used-strings = 1
-numbered used-phandles = 2
-numbered depth = 3
-numbered boot = 4
-numbered ended = 5
-numbered mark = 6
+-- the flags that calls set: whether a node was ended last, and whether the record is marked finished
+pub data Flag : Type 0 where
+  ended : Flag
+  finish : Flag
 
--- a field that is set, and to what
+-- their places, by which two are distinguished
+abbrev numberPlace : Number → ℕ
+numberPlace used-blob = 0
+numberPlace used-strings = 1
+numberPlace used-phandles = 2
+numberPlace depth = 3
+numberPlace boot = 4
+
+abbrev flagPlace : Flag → ℕ
+flagPlace ended = 0
+flagPlace finish = 1
+
+-- what is set, and to what
 pub data Setting : Type 0 where
-  number : Field → ℕ → Setting
-  flag : Field → Bool → Setting
+  number : Number → ℕ → Setting
+  flag : Flag → Bool → Setting
 
--- a number afterwards: the new one if its field is set, otherwise the old one
-abbrev numberOf : Field → Setting → ℕ → ℕ
-numberOf field (number set new) old = cond (eqb (numbered set) (numbered field)) new old
-numberOf field (flag set new) old = old
+-- a number afterwards: the new one if it is set, otherwise the old one
+abbrev newNumber : Number → Setting → ℕ → ℕ
+newNumber this (number set new) old = cond (eqb (numberPlace set) (numberPlace this)) new old
+newNumber this (flag set new) old = old
 
 -- a flag afterwards
-abbrev flagOf : Field → Setting → Bool → Bool
-flagOf field (number set new) old = old
-flagOf field (flag set new) old = cond (eqb (numbered set) (numbered field)) new old
+abbrev newFlag : Flag → Setting → Bool → Bool
+newFlag this (number set new) old = old
+newFlag this (flag set new) old = cond (eqb (flagPlace set) (flagPlace this)) new old
 
 -- the record afterwards
 abbrev pub setting : Setting → Record → Record
 setting s w = record {
   «blob_room» = w .«blob_room»;
-  «blob_used» = numberOf used-blob s (w .«blob_used»);
+  «blob_used» = newNumber used-blob s (w .«blob_used»);
   «strings_room» = w .«strings_room»;
-  «strings_used» = numberOf used-strings s (w .«strings_used»);
+  «strings_used» = newNumber used-strings s (w .«strings_used»);
   «phandles_room» = w .«phandles_room»;
-  «phandles_used» = numberOf used-phandles s (w .«phandles_used»);
+  «phandles_used» = newNumber used-phandles s (w .«phandles_used»);
   reservations = w .reservations;
-  «node_depth» = numberOf depth s (w .«node_depth»);
-  «boot_cpuid_phys» = numberOf boot s (w .«boot_cpuid_phys»);
-  «node_ended» = flagOf ended s (w .«node_ended»);
-  finished = flagOf mark s (w .finished);
+  «node_depth» = newNumber depth s (w .«node_depth»);
+  «boot_cpuid_phys» = newNumber boot s (w .«boot_cpuid_phys»);
+  «node_ended» = newFlag ended s (w .«node_ended»);
+  finished = newFlag finish s (w .finished);
 }
 
 abbrev pub withUsedBlob : ℕ → Record → Record
@@ -70,10 +75,8 @@ withDepth n = setting (number depth n)
 abbrev pub withBoot : ℕ → Record → Record
 withBoot n = setting (number boot n)
 
--- whether a node was ended last
 abbrev pub withEnded : Bool → Record → Record
 withEnded b = setting (flag ended b)
 
--- whether the record is marked finished
 abbrev pub withFinished : Bool → Record → Record
-withFinished b = setting (flag mark b)
+withFinished b = setting (flag finish b)
