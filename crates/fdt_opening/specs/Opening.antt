@@ -29,12 +29,12 @@ someInvalid numbers = some (count numbers) (λ k. invalid (start numbers k) (siz
 
 -- an accepted opening's record: n, the usable lengths and the used blob length 56 + 16n; all else 0, no node ended, not finished
 unfoldable pub openedRecord : ℕ → ℕ → ℕ → List ℕ → Record
-openedRecord blob strings phandles numbers = record {
-  «blob_room» = usable blobCeiling blob;
+openedRecord blobLength stringsLength phandlesLength numbers = record {
+  «blob_room» = usable blobCeiling blobLength;
   «blob_used» = structureStart (count numbers);
-  «strings_room» = usable stringsCeiling strings;
+  «strings_room» = usable stringsCeiling stringsLength;
   «strings_used» = 0;
-  «phandles_room» = usable phandlesCeiling phandles;
+  «phandles_room» = usable phandlesCeiling phandlesLength;
   «phandles_used» = 0;
   reservations = count numbers;
   «node_depth» = 0;
@@ -45,17 +45,17 @@ openedRecord blob strings phandles numbers = record {
 
 -- the tests, in their order, of a call that is lent buffers of these lengths
 unfoldable pub openingRows : ℕ → ℕ → ℕ → List ℕ → List Row
-openingRows blob strings phandles numbers =
+openingRows blobLength stringsLength phandlesLength numbers =
     (not (eqb (length numbers % 2) 0) ⇒ Misfit)
     ∷ (ltb mostReservations (count numbers) ⇒ TooManyReservations)
     ∷ (someInvalid numbers ⇒ InvalidMemoryReservation)
     ∷ (overlapping numbers ⇒ OverlappingMemoryReservations)
-    ∷ (overfull (openedRecord blob strings phandles numbers) ⇒ BlobRoom)
+    ∷ (overfull (openedRecord blobLength stringsLength phandlesLength numbers) ⇒ BlobRoom)
     ∷ []
 
 -- the answer
 unfoldable pub openingAnswer : ℕ → ℕ → ℕ → List ℕ → Answer
-openingAnswer blob strings phandles numbers = first (openingRows blob strings phandles numbers)
+openingAnswer blobLength stringsLength phandlesLength numbers = first (openingRows blobLength stringsLength phandlesLength numbers)
 
 -- a refused opening's record: all numbers 0 and marked finished
 unfoldable pub closedRecord : Record
@@ -79,17 +79,17 @@ openingBytes numbers = zeros headerSize ++ reservationBytes numbers
 
 -- the answer and the record, for the lengths of the three buffers
 unfoldable pub opening : ℕ → ℕ → ℕ → List ℕ → Outcome
-opening blob strings phandles numbers = record {
-  answer = openingAnswer blob strings phandles numbers;
-  after = upon (openingAnswer blob strings phandles numbers) (openedRecord blob strings phandles numbers) closedRecord;
+opening blobLength stringsLength phandlesLength numbers = record {
+  answer = openingAnswer blobLength stringsLength phandlesLength numbers;
+  after = upon (openingAnswer blobLength stringsLength phandlesLength numbers) (openedRecord blobLength stringsLength phandlesLength numbers) closedRecord;
 }
 
 -- the blob afterwards: an accepted opening's bytes in front, and nothing else changed
 unfoldable pub openingBlob : List ℕ → ℕ → ℕ → List ℕ → List ℕ
-openingBlob blob strings phandles numbers =
-    upon (openingAnswer (length blob) strings phandles numbers) (splice 0 (openingBytes numbers) blob) blob
+openingBlob blob stringsLength phandlesLength numbers =
+    upon (openingAnswer (length blob) stringsLength phandlesLength numbers) (splice 0 (openingBytes numbers) blob) blob
 
 -- the outcome of a call
-pub record OpeningOutcome (blob : List ℕ) (strings phandles : ℕ) (numbers : List ℕ) (r : Outcome) (after : List ℕ) : Type 0 where
-  pub result : r ≡ opening (length blob) strings phandles numbers
-  pub bytes : after ≡ openingBlob blob strings phandles numbers
+pub record OpeningOutcome (blob : List ℕ) (stringsLength phandlesLength : ℕ) (numbers : List ℕ) (r : Outcome) (after : List ℕ) : Type 0 where
+  pub result : r ≡ opening (length blob) stringsLength phandlesLength numbers
+  pub bytes : after ≡ openingBlob blob stringsLength phandlesLength numbers
