@@ -2,7 +2,7 @@
 use libc::STDERR_FILENO;
 
 // What each refusal means, by its number.
-const REFUSALS: [u8; 795] = *b"\n\
+const REFUSALS: [u8; 796] = *b"\n\
     , a property must be inside a node\n\
     , properties must come before child nodes\n\
     , the value is too large\n\
@@ -15,7 +15,7 @@ const REFUSALS: [u8; 795] = *b"\n\
     , not a valid node name (a letter, at most 30 of A-Z a-z 0-9 , . _ + - and optionally @ with an address)\n\
     , not a valid property name (1 to 31 of A-Z a-z 0-9 , . _ + ? # -)\n\
     , nodes can be nested at most 64 deep\n\
-    , another node has this phandle\n\
+    , this phandle is already in use\n\
     , no room left in the blob\n\
     , no room left for another property name\n\
     , no room left for another phandle\n\
