@@ -17,11 +17,11 @@ use Rattle.fdt_format.proofs.Strings.{Distinct, names-once}
 use Rattle.fdt_record.specs.declared.Answer.the-variants.{Misfit}
 use Rattle.fdt_record.specs.Answers.{accepts}
 use Rattle.fdt_opening.specs.Opening.{count}
-use Rattle.fdt_promises.specs.Calls.{Call, asks, to-have, Desk, answer, after, unaltered}
+use Rattle.fdt_calls.specs.Calls.{Call, asks, to-have, Desk, answer, after, unaltered}
+use Rattle.fdt_calls.proofs.Refused.{refused-after}
 use Rattle.fdt_promises.specs.Run.{phandlesOf, tells, eventsOf, bootOf, Holds, Fits, Misgiven, Run, allAsk, opened-desk, desk, history, description, Finishes, blob}
 use Rattle.fdt_promises.specs.Foreign.{AllRead, foreign}
 use Rattle.fdt_promises.specs.Starred.{allHold, starred}
-use Rattle.fdt_promises.proofs.Desks.{refused-after}
 use Rattle.fdt_promises.proofs.Described.{run-holds, run-fits, run-given, run-shown, run-length, run-read, same-runs, same-history, same-kinds}
 use Rattle.fdt_promises.proofs.Foreign.{foreign-read}
 use Rattle.fdt_promises.proofs.Starred.{starred-hold}

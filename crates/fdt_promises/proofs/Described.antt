@@ -19,7 +19,7 @@ use Rattle.fdt_record.specs.declared.Answer.the-variants.{Misfit}
 use Rattle.fdt_opening.specs.Opening.{count}
 use Rattle.fdt_opening.proofs.Opening.{OpeningFits, opened-fits}
 use Rattle.fdt_finish.proofs.Finishing.{finish-fits}
-use Rattle.fdt_promises.specs.Calls.{Call, asks, to-have, effect, answer}
+use Rattle.fdt_calls.specs.Calls.{Call, asks, to-have, effect, answer}
 use Rattle.fdt_promises.specs.Run.{phandlesOf, told, tells, eventsOf, bootOf, Holds, Fits, Misgiven, reservationsOf, withNodes, describe, Run, allAsk, opened-desk, desk, history, description, Finishes, blob}
 use Rattle.fdt_promises.proofs.Ended.{count-paired, shown-bytes, nodes-told, well-formed}
 use Rattle.fdt_promises.proofs.Fitting.{open-fits, only-given}

@@ -34,7 +34,7 @@ use Rattle.fdt_finish.specs.Finish.{usedStrings, finishedRecord, finishedBlob}
 use Rattle.fdt_finish.specs.Shown.{shown}
 use Rattle.fdt_finish.proofs.Finishing.{finish-fits, length-finished}
 use Rattle.fdt_finish.proofs.Shown.{shown-whole}
-use Rattle.fdt_promises.specs.Calls.{to-finish, Desk, answer, after}
+use Rattle.fdt_calls.specs.Calls.{to-finish, Desk, answer, after}
 use Rattle.fdt_promises.specs.Run.{reservationsOf}
 use Rattle.fdt_promises.proofs.Desks.{finished-after}
 use Rattle.fdt_promises.proofs.Growth.{more-filled}

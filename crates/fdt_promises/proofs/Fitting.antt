@@ -33,9 +33,9 @@ use Rattle.fdt_properties.specs.Property.{stateRows, nameRows, roomRows, proper
 use Rattle.fdt_phandles.specs.Phandle.{phandleName, phandleValue, recordRows, recordAnswer, phandle}
 use Rattle.fdt_finish.specs.Boot.{bootAnswer}
 use Rattle.fdt_finish.specs.Finish.{finishRows, finishAnswer}
-use Rattle.fdt_promises.specs.Calls.{Call, new, new-with-mem-reserv, set-boot-cpuid-phys, begin-node, end-node, property, property-null, property-string, property-string-list, property-u32, property-u64, property-array-u32, property-array-u64, property-phandle, finish, show, asks, to-open, to-boot, to-begin, to-end, to-have, to-mark, to-finish, Desk, answer, markAnswer}
+use Rattle.fdt_calls.specs.Calls.{Call, new, new-with-mem-reserv, set-boot-cpuid-phys, begin-node, end-node, property, property-null, property-string, property-string-list, property-u32, property-u64, property-array-u32, property-array-u64, property-phandle, finish, show, asks, to-open, to-boot, to-begin, to-end, to-have, to-mark, to-finish, Desk, answer, markAnswer}
+use Rattle.fdt_calls.proofs.Refused.{marked-answer}
 use Rattle.fdt_promises.specs.Run.{Filled, Fits, Misgiven, odd-count, other-sum}
-use Rattle.fdt_promises.proofs.Desks.{marked-answer}
 use Rattle.fdt_promises.proofs.Held.{Open, marked-open}
 
 -- ---- the record fits

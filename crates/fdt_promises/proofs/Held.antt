@@ -31,9 +31,10 @@ use Rattle.fdt_properties.proofs.Property.{property-fits}
 use Rattle.fdt_phandles.specs.Phandle.{phandleName, phandleValue, recorded}
 use Rattle.fdt_phandles.proofs.Phandles.{record-fits}
 use Rattle.fdt_finish.specs.Finish.{finishedRecord}
-use Rattle.fdt_promises.specs.Calls.{Request, to-open, to-boot, to-begin, to-end, to-have, to-mark, to-finish, to-show, Effect, opens, sets-boot, adds, records, nothing, effect, Desk, withWriter, withPhandles, answer, after, markAnswer, marked, leftBy}
+use Rattle.fdt_calls.specs.Calls.{Request, to-open, to-boot, to-begin, to-end, to-have, to-mark, to-finish, to-show, Effect, opens, sets-boot, adds, records, nothing, effect, Desk, withWriter, withPhandles, answer, after, markAnswer, marked, leftBy}
+use Rattle.fdt_calls.proofs.Refused.{marked-answer, marked-after, refused-mark, refused-after}
 use Rattle.fdt_promises.specs.Run.{Filled, Holds, told, tells, bootAfter, boots, recordedBy, deepens, closes, InRun}
-use Rattle.fdt_promises.proofs.Desks.{grown, booted-after, begun-after, ended-after, had-after, marked-answer, marked-after, finished-after, refused-mark, refused-after}
+use Rattle.fdt_promises.proofs.Desks.{grown, booted-after, begun-after, ended-after, had-after, finished-after}
 use Rattle.fdt_promises.proofs.Growth.{more-filled, one-filled, no-zero, named, plain-snoc, size-snoc, depth-snoc, ended-snoc, Follows, still-shallow, still-accepted}
 
 -- what an open run holds, with what only the proofs need: at most 64 reservations, a boot number of 32 bits, at most 64 open nodes,

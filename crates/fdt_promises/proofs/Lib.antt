@@ -1,4 +1,3 @@
-pub mod Agrees
 pub mod Composed
 pub mod Demands
 pub mod Described

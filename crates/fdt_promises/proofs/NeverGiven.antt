@@ -19,8 +19,8 @@ use Rattle.fdt_properties.specs.Property.{stateRows, nameRows, roomRows, proper
 use Rattle.fdt_phandles.specs.Phandle.{phandleName, phandleValue, recordRows, recordAnswer, phandle}
 use Rattle.fdt_finish.specs.Boot.{bootAnswer}
 use Rattle.fdt_finish.specs.Finish.{finishRows, finishAnswer}
-use Rattle.fdt_promises.specs.Calls.{Request, to-open, to-boot, to-begin, to-end, to-have, to-mark, to-finish, to-show, Desk, answer, markAnswer, marked}
-use Rattle.fdt_promises.proofs.Desks.{marked-answer}
+use Rattle.fdt_calls.specs.Calls.{Request, to-open, to-boot, to-begin, to-end, to-have, to-mark, to-finish, to-show, Desk, answer, markAnswer, marked}
+use Rattle.fdt_calls.proofs.Refused.{marked-answer}
 
 -- the answer's number is neither 3 nor 4
 abbrev pub Neither34 : Answer → Type 0

@@ -25,9 +25,10 @@ use Rattle.fdt_properties.specs.Property.{stateRows, propertyRows, propertyAnsw
 use Rattle.fdt_phandles.specs.Phandle.{recordRows, recordAnswer}
 use Rattle.fdt_finish.specs.Boot.{bootAnswer}
 use Rattle.fdt_finish.specs.Finish.{finishRows, finishAnswer}
-use Rattle.fdt_promises.specs.Calls.{Request, to-open, to-boot, to-begin, to-end, to-have, to-mark, to-finish, to-show, effect, Desk, answer, after, markAnswer, marked, leftBy}
+use Rattle.fdt_calls.specs.Calls.{Request, to-open, to-boot, to-begin, to-end, to-have, to-mark, to-finish, to-show, effect, Desk, answer, after, markAnswer, marked, leftBy}
+use Rattle.fdt_calls.proofs.Refused.{refused-mark, refused-after}
 use Rattle.fdt_promises.specs.Run.{runs, accepted, recordedBy, phandlesOf, tells, eventsOf, boots, depthOf, endedOf, InRun, AllInRun}
-use Rattle.fdt_promises.proofs.Desks.{opened-after, refused-after, refused-mark}
+use Rattle.fdt_promises.proofs.Desks.{opened-after}
 use Rattle.fdt_promises.proofs.Growth.{none-filled, more-filled}
 use Rattle.fdt_promises.proofs.Held.{Open, accepted-open, refused-open}
 

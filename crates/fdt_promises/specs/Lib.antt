@@ -1,4 +1,3 @@
-pub mod Calls
 pub mod Effects
 pub mod Foreign
 pub mod Run

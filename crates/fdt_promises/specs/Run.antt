@@ -19,7 +19,7 @@ use Rattle.fdt_record.specs.Misfits.{misfitRecord, misfitBlob, misfitStrings, m
 use Rattle.fdt_opening.specs.Opening.{count}
 use Rattle.fdt_phandles.specs.Phandle.{phandleName, phandleValue}
 use Rattle.fdt_finish.specs.Shown.{shown}
-use Rattle.fdt_promises.specs.Calls.{Call, new-with-mem-reserv, property-string-list, asks, Request, to-open, to-finish, Effect, opens, sets-boot, adds, records, nothing, effect, Desk, answer, after, markAnswer}
+use Rattle.fdt_calls.specs.Calls.{Call, new-with-mem-reserv, property-string-list, asks, Request, to-open, to-finish, Effect, opens, sets-boot, adds, records, nothing, effect, Desk, answer, after, markAnswer}
 
 -- ---- calls one after the other
 

@@ -15,8 +15,8 @@ use Rattle.fdt_properties.specs.Property.{property, PropertyOutcome}
 use Rattle.fdt_phandles.specs.Phandle.{PhandleOutcome}
 use Rattle.fdt_finish.specs.Boot.{boot}
 use Rattle.fdt_finish.specs.Finish.{finish, FinishOutcome}
-use Rattle.fdt_promises.specs.Calls.{Request, to-open, to-boot, to-begin, to-end, to-have, to-mark, to-finish, Desk, answer, after}
-use Rattle.fdt_promises.proofs.Desks.{same-desk}
+use Rattle.fdt_calls.specs.Calls.{Request, to-open, to-boot, to-begin, to-end, to-have, to-mark, to-finish, Desk, answer, after}
+use Rattle.fdt_calls.proofs.Desks.{same-desk}
 
 -- an answer, a record and buffers that are those of the definitions
 pub record Agrees (c : Request) (s : Desk) (a : Answer) (w : Record) (blob strings phandles : List ℕ) : Type 0 where

@@ -1,0 +1,1 @@
+// The public calls as definitions. There is no code here.
