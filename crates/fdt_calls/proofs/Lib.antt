@@ -1,3 +1,3 @@
-pub mod Agrees
+pub mod Called
 pub mod Desks
 pub mod Refused

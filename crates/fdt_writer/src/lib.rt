@@ -1,16 +1,11 @@
 // The devicetree writer: each method takes the writer and returns an answer with the new writer.
 ghost use mathlib.Core.Path.{_≡_};
-ghost use mathlib.Core.List.{[], _∷_};
-ghost use lib.ListN.{length};
-ghost use Rattle.fdt_values.specs.Value.{raw, cells, texts};
-ghost use Rattle.fdt_nodes.specs.Begin.{BeginOutcome};
-ghost use Rattle.fdt_nodes.specs.End.{EndOutcome};
-ghost use Rattle.fdt_properties.specs.Property.{PropertyOutcome};
-ghost use Rattle.fdt_phandles.specs.Phandle.{PhandleOutcome};
-ghost use Rattle.fdt_opening.specs.Opening.{OpeningOutcome};
-ghost use Rattle.fdt_finish.specs.Boot.{boot};
-ghost use Rattle.fdt_finish.specs.Finish.{FinishOutcome};
-ghost use Rattle.fdt_finish.specs.Shown.{shown};
+ghost use mathlib.Core.List.{List};
+ghost use Prim.Native.Nat.{ℕ};
+ghost use Rattle.fdt_record.specs.declared.Answer.the-variants.{Done};
+ghost use Rattle.fdt_record.specs.declared.Record.{Record};
+ghost use Rattle.fdt_calls.specs.Calls.{new, new-with-mem-reserv, set-boot-cpuid-phys, begin-node, end-node, property, property-null, property-string, property-string-list, property-u32, property-u64, property-array-u32, property-array-u64, property-phandle, finish, show};
+ghost use Rattle.fdt_calls.specs.Called.{desk, Called, handleOf, shownPart};
 ghost use Rattle.fdt_writer.specs.Told.{told, begun};
 use fdt_nodes::Begun;
 use fdt_nodes::FdtWriterNode;
@@ -65,7 +60,7 @@ impl FdtWriter {
     // Opens a writer over a blob buffer, a string buffer and a table of phandles, with no memory reservations.
     // Refused 14 only. A refused opening returns a closed writer, which every call except `show` refuses.
     pub fn new(blob: &mut [u8], strings: &[u8], phandles: &[u32]) -> Answered
-        ensures { λ r. ⌜ OpeningOutcome (now (blob .entry)) (length (now (strings .entry))) (length (now (phandles .entry))) [] (told r) (now (blob .exit)) ⌝ }
+        ensures { λ r. ⌜ ((w : Record) → Called new (desk w (now (blob .entry)) (now (strings .entry)) (now (phandles .entry))) (r .answer) (desk (r .writer .0) (now (blob .exit)) (now (strings .entry)) (now (phandles .entry)))) ⌝ }
     {
         FdtWriter::new_with_mem_reserv(blob, strings, phandles, &[])
     }
@@ -78,7 +73,7 @@ impl FdtWriter {
         phandles: &[u32],
         mem_reservations: &[u64],
     ) -> Answered
-        ensures { λ r. ⌜ OpeningOutcome (now (blob .entry)) (length (now (strings .entry))) (length (now (phandles .entry))) (now («mem_reservations» .entry)) (told r) (now (blob .exit)) ⌝ }
+        ensures { λ r. ⌜ ((w : Record) → Called (new-with-mem-reserv (now («mem_reservations» .entry))) (desk w (now (blob .entry)) (now (strings .entry)) (now (phandles .entry))) (r .answer) (desk (r .writer .0) (now (blob .exit)) (now (strings .entry)) (now (phandles .entry)))) ⌝ }
     {
         wrapped(fdt_opening::open(blob, strings, phandles, mem_reservations))
     }
@@ -86,7 +81,7 @@ impl FdtWriter {
     // Sets the boot processor's number in the header.
     // Refused 18, 17, in this order.
     pub fn set_boot_cpuid_phys(self, boot_cpuid_phys: u32) -> Answered
-        ensures { λ r. ⌜ told r ≡ boot (self .0) «boot_cpuid_phys» ⌝ }
+        ensures { λ r. ⌜ ((blob strings phandles : List ℕ) → Called (set-boot-cpuid-phys «boot_cpuid_phys») (desk (self .0) blob strings phandles) (r .answer) (desk (r .writer .0) blob strings phandles)) ⌝ }
     {
         wrapped(fdt_finish::set_boot_cpuid_phys(self.0, boot_cpuid_phys))
     }
@@ -94,7 +89,7 @@ impl FdtWriter {
     // Begins a node inside the open one, and returns its handle.
     // Refused 18, 17, 12, 5, 10, 14, in this order.
     pub fn begin_node(self, blob: &mut [u8], name: &[u8]) -> NodeAnswered
-        ensures { λ r. ⌜ BeginOutcome (self .0) (now (blob .entry)) (now (name .entry)) (begun r) (now (blob .exit)) ⌝ }
+        ensures { λ r. ⌜ ((strings phandles : List ℕ) → Called (begin-node (now (name .entry))) (desk (self .0) (now (blob .entry)) strings phandles) (r .answer) (desk (r .writer .0) (now (blob .exit)) strings phandles) × (r .handle ≡ handleOf (desk (self .0) (now (blob .entry)) strings phandles) (now (name .entry)))) ⌝ }
     {
         wrapped_node(fdt_nodes::begin_node(self.0, blob, name))
     }
@@ -102,7 +97,7 @@ impl FdtWriter {
     // Ends the open node, whose handle must be given.
     // Refused 18, 17, 6, 14, in this order.
     pub fn end_node(self, blob: &mut [u8], node: FdtWriterNode) -> Answered
-        ensures { λ r. ⌜ EndOutcome (self .0) (now (blob .entry)) (node .0) (told r) (now (blob .exit)) ⌝ }
+        ensures { λ r. ⌜ ((strings phandles : List ℕ) → Called (end-node (node .0)) (desk (self .0) (now (blob .entry)) strings phandles) (r .answer) (desk (r .writer .0) (now (blob .exit)) strings phandles)) ⌝ }
     {
         wrapped(fdt_nodes::end_node(self.0, blob, node))
     }
@@ -110,7 +105,7 @@ impl FdtWriter {
     // Writes a property of the open node: a name and the bytes of its value.
     // Refused 18, 17, 2, 1, 5, 11, 15, 14, in this order.
     pub fn property(self, blob: &mut [u8], strings: &mut [u8], name: &[u8], val: &[u8]) -> Answered
-        ensures { λ r. ⌜ PropertyOutcome (self .0) (now (blob .entry)) (now (strings .entry)) (now (name .entry)) (raw (now (val .entry))) (told r) (now (blob .exit)) (now (strings .exit)) ⌝ }
+        ensures { λ r. ⌜ ((phandles : List ℕ) → Called (property (now (name .entry)) (now (val .entry))) (desk (self .0) (now (blob .entry)) (now (strings .entry)) phandles) (r .answer) (desk (r .writer .0) (now (blob .exit)) (now (strings .exit)) phandles)) ⌝ }
     {
         wrapped(fdt_properties::write_bytes(self.0, blob, strings, name, val))
     }
@@ -118,7 +113,7 @@ impl FdtWriter {
     // Writes a property with an empty value.
     // Refused 18, 17, 2, 1, 5, 11, 15, 14, in this order.
     pub fn property_null(self, blob: &mut [u8], strings: &mut [u8], name: &[u8]) -> Answered
-        ensures { λ r. ⌜ PropertyOutcome (self .0) (now (blob .entry)) (now (strings .entry)) (now (name .entry)) (raw []) (told r) (now (blob .exit)) (now (strings .exit)) ⌝ }
+        ensures { λ r. ⌜ ((phandles : List ℕ) → Called (property-null (now (name .entry))) (desk (self .0) (now (blob .entry)) (now (strings .entry)) phandles) (r .answer) (desk (r .writer .0) (now (blob .exit)) (now (strings .exit)) phandles)) ⌝ }
     {
         self.property(blob, strings, name, &[])
     }
@@ -132,7 +127,7 @@ impl FdtWriter {
         name: &[u8],
         val: &[u8],
     ) -> Answered
-        ensures { λ r. ⌜ PropertyOutcome (self .0) (now (blob .entry)) (now (strings .entry)) (now (name .entry)) (texts (now (val .entry)) (length (now (val .entry)) ∷ [])) (told r) (now (blob .exit)) (now (strings .exit)) ⌝ }
+        ensures { λ r. ⌜ ((phandles : List ℕ) → Called (property-string (now (name .entry)) (now (val .entry))) (desk (self .0) (now (blob .entry)) (now (strings .entry)) phandles) (r .answer) (desk (r .writer .0) (now (blob .exit)) (now (strings .exit)) phandles)) ⌝ }
     {
         self.property_string_list(blob, strings, name, val, &[val.len()])
     }
@@ -147,7 +142,7 @@ impl FdtWriter {
         values: &[u8],
         lengths: &[usize],
     ) -> Answered
-        ensures { λ r. ⌜ PropertyOutcome (self .0) (now (blob .entry)) (now (strings .entry)) (now (name .entry)) (texts (now (values .entry)) (now (lengths .entry))) (told r) (now (blob .exit)) (now (strings .exit)) ⌝ }
+        ensures { λ r. ⌜ ((phandles : List ℕ) → Called (property-string-list (now (name .entry)) (now (values .entry)) (now (lengths .entry))) (desk (self .0) (now (blob .entry)) (now (strings .entry)) phandles) (r .answer) (desk (r .writer .0) (now (blob .exit)) (now (strings .exit)) phandles)) ⌝ }
     {
         wrapped(fdt_properties::write_texts(self.0, blob, strings, name, values, lengths))
     }
@@ -161,7 +156,7 @@ impl FdtWriter {
         name: &[u8],
         val: u32,
     ) -> Answered
-        ensures { λ r. ⌜ PropertyOutcome (self .0) (now (blob .entry)) (now (strings .entry)) (now (name .entry)) (cells 4 (val ∷ [])) (told r) (now (blob .exit)) (now (strings .exit)) ⌝ }
+        ensures { λ r. ⌜ ((phandles : List ℕ) → Called (property-u32 (now (name .entry)) val) (desk (self .0) (now (blob .entry)) (now (strings .entry)) phandles) (r .answer) (desk (r .writer .0) (now (blob .exit)) (now (strings .exit)) phandles)) ⌝ }
     {
         self.property_array_u32(blob, strings, name, &[val])
     }
@@ -175,7 +170,7 @@ impl FdtWriter {
         name: &[u8],
         val: u64,
     ) -> Answered
-        ensures { λ r. ⌜ PropertyOutcome (self .0) (now (blob .entry)) (now (strings .entry)) (now (name .entry)) (cells 8 (val ∷ [])) (told r) (now (blob .exit)) (now (strings .exit)) ⌝ }
+        ensures { λ r. ⌜ ((phandles : List ℕ) → Called (property-u64 (now (name .entry)) val) (desk (self .0) (now (blob .entry)) (now (strings .entry)) phandles) (r .answer) (desk (r .writer .0) (now (blob .exit)) (now (strings .exit)) phandles)) ⌝ }
     {
         self.property_array_u64(blob, strings, name, &[val])
     }
@@ -189,7 +184,7 @@ impl FdtWriter {
         name: &[u8],
         numbers: &[u32],
     ) -> Answered
-        ensures { λ r. ⌜ PropertyOutcome (self .0) (now (blob .entry)) (now (strings .entry)) (now (name .entry)) (cells 4 (now (numbers .entry))) (told r) (now (blob .exit)) (now (strings .exit)) ⌝ }
+        ensures { λ r. ⌜ ((phandles : List ℕ) → Called (property-array-u32 (now (name .entry)) (now (numbers .entry))) (desk (self .0) (now (blob .entry)) (now (strings .entry)) phandles) (r .answer) (desk (r .writer .0) (now (blob .exit)) (now (strings .exit)) phandles)) ⌝ }
     {
         wrapped(fdt_properties::write_cells(self.0, blob, strings, name, numbers))
     }
@@ -203,7 +198,7 @@ impl FdtWriter {
         name: &[u8],
         numbers: &[u64],
     ) -> Answered
-        ensures { λ r. ⌜ PropertyOutcome (self .0) (now (blob .entry)) (now (strings .entry)) (now (name .entry)) (cells 8 (now (numbers .entry))) (told r) (now (blob .exit)) (now (strings .exit)) ⌝ }
+        ensures { λ r. ⌜ ((phandles : List ℕ) → Called (property-array-u64 (now (name .entry)) (now (numbers .entry))) (desk (self .0) (now (blob .entry)) (now (strings .entry)) phandles) (r .answer) (desk (r .writer .0) (now (blob .exit)) (now (strings .exit)) phandles)) ⌝ }
     {
         wrapped(fdt_properties::write_wide_cells(self.0, blob, strings, name, numbers))
     }
@@ -217,7 +212,7 @@ impl FdtWriter {
         phandles: &mut [u32],
         val: u32,
     ) -> Answered
-        ensures { λ r. ⌜ PhandleOutcome (self .0) (now (blob .entry)) (now (strings .entry)) (now (phandles .entry)) val (told r) (now (blob .exit)) (now (strings .exit)) (now (phandles .exit)) ⌝ }
+        ensures { λ r. ⌜ Called (property-phandle val) (desk (self .0) (now (blob .entry)) (now (strings .entry)) (now (phandles .entry))) (r .answer) (desk (r .writer .0) (now (blob .exit)) (now (strings .exit)) (now (phandles .exit))) ⌝ }
     {
         wrapped(fdt_phandles::property_phandle(self.0, blob, strings, phandles, val))
     }
@@ -225,7 +220,7 @@ impl FdtWriter {
     // Finishes the blob: writes the last word, the strings and the header.
     // Refused 18, 17, 7, 14, in this order.
     pub fn finish(self, blob: &mut [u8], strings: &[u8]) -> Answered
-        ensures { λ r. ⌜ FinishOutcome (self .0) (now (blob .entry)) (now (strings .entry)) (told r) (now (blob .exit)) ⌝ }
+        ensures { λ r. ⌜ ((phandles : List ℕ) → Called finish (desk (self .0) (now (blob .entry)) (now (strings .entry)) phandles) (r .answer) (desk (r .writer .0) (now (blob .exit)) (now (strings .entry)) phandles)) ⌝ }
     {
         wrapped(fdt_finish::finish(self.0, blob, strings))
     }
@@ -233,7 +228,7 @@ impl FdtWriter {
     // Shows the finished blob, which is the front of the lent buffer. If the writer is not finished, or does not fit the buffer, shows an empty part.
     // Never refused.
     pub fn show(self, blob: &[u8]) -> &[u8]
-        ensures { λ r. ⌜ now r ≡ shown (self .0) (now (blob .entry)) ⌝ }
+        ensures { λ r. ⌜ ((strings phandles : List ℕ) → Called show (desk (self .0) (now (blob .entry)) strings phandles) Done (desk (self .0) (now (blob .entry)) strings phandles) × (now r ≡ shownPart (desk (self .0) (now (blob .entry)) strings phandles))) ⌝ }
     {
         fdt_finish::show(self.0, blob)
     }

@@ -1,9 +1,10 @@
 -- `end_node` meets its contract: the call on the record ensures it.
+use Rattle.fdt_calls.proofs.Called.{end-node-called}
 use Rattle.fdt_writer.proofs.FdtWriter.end_node.Statement.{statement}
 use Rattle.fdt_writer.proofs.FdtWriter.end_node.Tie as tie
 
 returns : tie.Need-returns
-returns c = rw (c .wrapped .ensures) (c .before .before .before .end-node .ensures)
+returns c strings phandles = end-node-called (c .wrapped .ensures) (c .before .before .before .end-node .ensures)
 
 pub end-node-spec : {M : Type 1} → statement M
 end-node-spec =

@@ -1,9 +1,10 @@
 -- `property` meets its contract: the call on the record ensures it of bytes.
+use Rattle.fdt_calls.proofs.Called.{property-called}
 use Rattle.fdt_writer.proofs.FdtWriter.property.Statement.{statement}
 use Rattle.fdt_writer.proofs.FdtWriter.property.Tie as tie
 
 returns : tie.Need-returns
-returns c = rw (c .wrapped .ensures) (c .before .before .before .before .before .write-bytes .ensures)
+returns c phandles = property-called (c .wrapped .ensures) (c .before .before .before .before .before .write-bytes .ensures)
 
 pub property-spec : {M : Type 1} → statement M
 property-spec =

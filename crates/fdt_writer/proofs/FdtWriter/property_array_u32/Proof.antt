@@ -1,9 +1,10 @@
 -- `property_array_u32` meets its contract: the call on the record ensures it of numbers.
+use Rattle.fdt_calls.proofs.Called.{property-array-u32-called}
 use Rattle.fdt_writer.proofs.FdtWriter.property_array_u32.Statement.{statement}
 use Rattle.fdt_writer.proofs.FdtWriter.property_array_u32.Tie as tie
 
 returns : tie.Need-returns
-returns c = rw (c .wrapped .ensures) (c .before .before .before .before .before .write-cells .ensures)
+returns c phandles = property-array-u32-called (c .wrapped .ensures) (c .before .before .before .before .before .write-cells .ensures)
 
 pub property-array-u32-spec : {M : Type 1} → statement M
 property-array-u32-spec =

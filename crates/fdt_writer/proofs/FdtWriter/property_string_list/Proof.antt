@@ -1,9 +1,10 @@
 -- `property_string_list` meets its contract: the call on the record ensures it of strings.
+use Rattle.fdt_calls.proofs.Called.{property-string-list-called}
 use Rattle.fdt_writer.proofs.FdtWriter.property_string_list.Statement.{statement}
 use Rattle.fdt_writer.proofs.FdtWriter.property_string_list.Tie as tie
 
 returns : tie.Need-returns
-returns c = rw (c .wrapped .ensures) (c .before .before .before .before .before .write-texts .ensures)
+returns c phandles = property-string-list-called (c .wrapped .ensures) (c .before .before .before .before .before .write-texts .ensures)
 
 pub property-string-list-spec : {M : Type 1} → statement M
 property-string-list-spec =

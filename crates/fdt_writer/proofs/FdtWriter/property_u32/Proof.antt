@@ -1,10 +1,11 @@
 -- `property_u32` meets its contract: it is the array of one number.
 use mathlib.Core.Path.{refl}
+use Rattle.fdt_calls.proofs.Called.{property-u32-called}
 use Rattle.fdt_writer.proofs.FdtWriter.property_u32.Statement.{statement}
 use Rattle.fdt_writer.proofs.FdtWriter.property_u32.Tie as tie
 
 returns : tie.Need-returns
-returns c = c .before .before .before .before .property-array-u32 .ensures
+returns c phandles = property-u32-called (c .before .before .before .before .property-array-u32 .ensures phandles)
 
 pub property-u32-spec : {M : Type 1} → statement M
 property-u32-spec =

@@ -1,10 +1,11 @@
 -- `property_u64` meets its contract: it is the array of one number.
 use mathlib.Core.Path.{refl}
+use Rattle.fdt_calls.proofs.Called.{property-u64-called}
 use Rattle.fdt_writer.proofs.FdtWriter.property_u64.Statement.{statement}
 use Rattle.fdt_writer.proofs.FdtWriter.property_u64.Tie as tie
 
 returns : tie.Need-returns
-returns c = c .before .before .before .before .property-array-u64 .ensures
+returns c phandles = property-u64-called (c .before .before .before .before .property-array-u64 .ensures phandles)
 
 pub property-u64-spec : {M : Type 1} → statement M
 property-u64-spec =
