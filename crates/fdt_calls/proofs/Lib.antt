@@ -1,3 +1,4 @@
 pub mod Called
 pub mod Desks
+pub mod OneOutcome
 pub mod Refused

@@ -8,7 +8,6 @@ pub mod Foreign
 pub mod Growth
 pub mod Held
 pub mod NeverGiven
-pub mod OneOutcome
 pub mod OwnBytes
 pub mod PastUsable
 pub mod Runs

@@ -18,8 +18,8 @@ use Rattle.fdt_record.specs.Limits.{blobCeiling, stringsCeiling, phandlesCeilin
 use Rattle.fdt_record.specs.Misfits.{misfitRecord, misfitBlob, misfitStrings, misfitPhandles}
 use Rattle.fdt_opening.specs.Opening.{count}
 use Rattle.fdt_phandles.specs.Phandle.{phandleName, phandleValue}
-use Rattle.fdt_finish.specs.Shown.{shown}
 use Rattle.fdt_calls.specs.Calls.{Call, new-with-mem-reserv, property-string-list, asks, Request, to-open, to-finish, Effect, opens, sets-boot, adds, records, nothing, effect, Desk, answer, after, markAnswer}
+use Rattle.fdt_calls.specs.Called.{shownPart}
 
 -- ---- calls one after the other
 
@@ -192,7 +192,7 @@ Finishes r = answer to-finish (desk r) ≡ Done
 
 -- the blob that is shown then
 unfoldable pub blob : Run → List ℕ
-blob r = shown (after to-finish (desk r) .writer) (after to-finish (desk r) .blob)
+blob r = shownPart (after to-finish (desk r))
 
 -- ---- misfit 17
 

@@ -39,6 +39,10 @@ module _ (address size : ℕ) where
       go true h = absurd (omega arith)
       go false h = refl
 
+-- Two results of `FdtReserveEntry::new` for the same numbers are equal.
+pub one-reserved : (address size : ℕ) {r s : Reserved} → r ≡ reserved address size → s ≡ reserved address size → r ≡ s
+one-reserved address size p q = p ∙ sym q
+
 -- The result of making reservation k, as read from the list.
 module _ (numbers : List ℕ) (k : ℕ) (entry : FdtReserveEntry) (answer : Reserved) (read : entry ≡ entryAt numbers k) (made : answer ≡ reserved (entry .address) (entry .size)) where
   -- the result by the definition's test

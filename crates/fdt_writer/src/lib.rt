@@ -56,6 +56,8 @@ fn wrapped_node(o: Begun) -> NodeAnswered
     }
 }
 
+// Each statement says that the call of that name was made (`Called` in crates/fdt_calls/specs): it gives the call's answer, and leaves
+// the call's record and bytes. It holds for any buffers that the method is not lent and, of an opening, for any record before it.
 impl FdtWriter {
     // Opens a writer over a blob buffer, a string buffer and a table of phandles, with no memory reservations.
     // Refused 14 only. A refused opening returns a closed writer, which every call except `show` refuses.
