@@ -13,12 +13,14 @@ use Rattle.fdt_calls.specs.Calls.{Call, asks, Desk, answer, after}
 abbrev pub desk : Record → List ℕ → List ℕ → List ℕ → Desk
 desk w blob strings phandles = record { writer = w; blob = blob; strings = strings; phandles = phandles }
 
--- a public call that found the desk `before` gave this answer and left this desk: both are those of what it asks for
+-- a public call was made: it found the desk `before`, gave this answer and left this desk
 pub record Called (c : Call) (before : Desk) (given : Answer) (left : Desk) : Type 0 where
+  -- the answer is that of what the call asks for
   pub answered : given ≡ answer (asks c) before
+  -- and so are the record and the buffers afterwards
   pub leaves : left ≡ after (asks c) before
 
--- the handle that beginning a node returns beside its answer
+-- the handle that beginning a node returns with its answer
 abbrev pub handleOf : Desk → List ℕ → FdtWriterNode
 handleOf s name = begin (s .writer) (s .blob) name .handle
 
