@@ -8,7 +8,7 @@ use borrow.Author.Tests.{eq-eqb, le-leb}
 use lib.ListN.{length, getD}
 use Rattle.fdt_bytes.specs.BigEndian.{wordAt}
 use Rattle.fdt_format.specs.declared.Areas.{Areas}
-use Rattle.fdt_header.specs.Header.{magic, version, lastCompatible, headerSize, structureStart, headerWords, headerBytes}
+use Rattle.fdt_header.specs.Header.{magic, version, lastCompatible, headerSize, structureStart, wordsFrom, headerWords, headerBytes}
 use Rattle.fdt_format.specs.Reading.{areasOf, goodWords, goodAreas, goodHeader}
 use Rattle.fdt_format.proofs.Words.{BytesAt, cell-at}
 
@@ -25,11 +25,11 @@ areasFrom n strings stringsSize boot = record {
 
 module _ (b : List ℕ) (n strings stringsSize boot : ℕ) (h : BytesAt b 0 (headerBytes n strings stringsSize boot)) (order : structureStart n ≤ strings) (total : length b ≡ strings + stringsSize) (small : length b < 2 ^ 32) (boots : boot < 2 ^ 32) where
   word : (k to : ℕ) → 4 * k ≡ to → k < 10 → getD (headerWords n strings stringsSize boot) k 0 < 2 ^ 32 → wordAt b to ≡ getD (headerWords n strings stringsSize boot) k 0
-  unfolding headerBytes headerWords
+  unfolding headerBytes headerWords wordsFrom
   word k to e i l = cell-at 4 (headerWords n strings stringsSize boot) k to h i (omega arith) (omega arith)
 
   pub areas-read : areasOf b ≡ areasFrom n strings stringsSize boot
-  unfolding areasOf areasFrom headerWords
+  unfolding areasOf areasFrom headerWords wordsFrom
   areas-read =
       let structure : wordAt b 8 ≡ structureStart n = word 2 8 refl (omega arith) (omega arith) in
       let at : wordAt b 12 ≡ strings = word 3 12 refl (omega arith) (omega arith) in
@@ -40,7 +40,7 @@ module _ (b : List ℕ) (n strings stringsSize boot : ℕ) (h : BytesAt b 0 (hea
       rw (end, structure, at, reservations, number, size)
 
   pub header-good : goodHeader b ≡ true
-  unfolding goodHeader goodWords goodAreas headerWords areasFrom
+  unfolding goodHeader goodWords goodAreas headerWords wordsFrom areasFrom
   header-good =
       let w₀ : wordAt b 0 ≡ magic = word 0 0 refl (omega arith) (omega arith) in
       let w₁ : wordAt b 4 ≡ length b = word 1 4 refl (omega arith) (omega arith) ∙ sym total in

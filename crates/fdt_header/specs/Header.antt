@@ -29,20 +29,24 @@ structureStart n = 56 + 16 * n
 unfoldable pub reservationBytes : List ℕ → List ℕ
 reservationBytes numbers = cellBytes 8 numbers ++ zeros 16
 
--- the words of the header, in order; n is the number of reservations, and the structure ends where the strings begin
-unfoldable pub headerWords : ℕ → ℕ → ℕ → ℕ → List ℕ
-headerWords n strings stringsSize boot =
+-- the words of the header, in order; the structure begins at `start` and ends where the strings begin
+unfoldable pub wordsFrom : (start strings stringsSize boot : ℕ) → List ℕ
+wordsFrom start strings stringsSize boot =
     magic
     ∷ (strings + stringsSize)
-    ∷ structureStart n
+    ∷ start
     ∷ strings
     ∷ headerSize
     ∷ version
     ∷ lastCompatible
     ∷ boot
     ∷ stringsSize
-    ∷ (strings - structureStart n)
+    ∷ (strings - start)
     ∷ []
+
+-- the words of the header of a blob with n reservations
+unfoldable pub headerWords : (n strings stringsSize boot : ℕ) → List ℕ
+headerWords n strings stringsSize boot = wordsFrom (structureStart n) strings stringsSize boot
 
 -- the bytes of the header
 unfoldable pub headerBytes : ℕ → ℕ → ℕ → ℕ → List ℕ

@@ -1,7 +1,7 @@
 // The header of a blob, and where the structure begins.
 ghost use mathlib.Core.Path.{_≡_};
-ghost use Prim.Native.Nat.{ℕ, _+_, _≤_, _<_, _^_};
-ghost use Rattle.fdt_header.specs.Header.{structureStart, headerWords};
+ghost use Prim.Native.Nat.{_+_, _≤_, _<_, _^_};
+ghost use Rattle.fdt_header.specs.Header.{structureStart, wordsFrom};
 
 // Bytes of a reservation: its address and its size. As many zeros end the reservations.
 pub const RESERVATION_SIZE: usize = 16;
@@ -34,7 +34,7 @@ impl Header {
     pub fn words(self) -> [u32; 10]
         requires { ⌜ self .«off_dt_struct» ≤ self .«off_dt_strings» ⌝ }
         requires { ⌜ self .«off_dt_strings» + self .«size_dt_strings» < 2 ^ 32 ⌝ }
-        ensures { λ r. ⌜ ((n : ℕ) → self .«off_dt_struct» ≡ structureStart n → r ≡ headerWords n (self .«off_dt_strings») (self .«size_dt_strings») (self .«boot_cpuid_phys»)) ⌝ }
+        ensures { λ r. ⌜ r ≡ wordsFrom (self .«off_dt_struct») (self .«off_dt_strings») (self .«size_dt_strings») (self .«boot_cpuid_phys») ⌝ }
     {
         [
             Self::MAGIC,

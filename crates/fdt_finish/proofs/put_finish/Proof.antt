@@ -1,9 +1,12 @@
 -- `put_finish` meets its contract: word 9 and the used strings in the rest, and the header in front.
+use mathlib.Core.Path.{_∙_}
+use Prim.Native.Nat.{_+_}
 use native.Mathlib.Omega.{arith}
 use borrow.Author.Needs.{needs}
 use lib.ListN.{length-take, length-drop}
 use lib.Seq.{length-take-le}
 use Rattle.fdt_bytes.proofs.Splice.{lent}
+use Rattle.fdt_header.proofs.HeaderBytes.{words-by-start}
 use Rattle.fdt_format.specs.Tokens.{finalBytes}
 use Rattle.fdt_finish.specs.Finish.{usedStrings}
 use Rattle.fdt_finish.proofs.Finishing.{finished-by-parts}
@@ -31,7 +34,7 @@ returns c =
     let a = s .args in
     finished-by-parts (a .w) (a .blob .now) (a .strings .now)
     (lent (a .w .«blob_used») (finalBytes (usedStrings (a .w) (a .strings .now))) (a .blob .now) _ (omega (arith, s .pre)) (final .put-final .ensures))
-    (words .words .ensures (a .w .reservations) (words .before .structure-start .ensures))
+    (words .words .ensures ∙ words-by-start (a .w .reservations) (a .w .«blob_used» + 4) (a .w .«strings_used») (a .w .«boot_cpuid_phys») (words .before .structure-start .ensures))
     (header .put-header .ensures)
 
 pub put-finish-spec : {M : Type 1} → statement M
