@@ -2,3 +2,4 @@ pub mod Called
 pub mod Desks
 pub mod OneOutcome
 pub mod Refused
+pub mod Table

@@ -1,5 +1,5 @@
 -- The public calls, what each asks for, and what it answers and leaves: a call is given the newest record and the same buffers.
-use mathlib.Core.List.{List, [], _∷_}
+use mathlib.Core.List.{List, [], _∷_, _++_}
 use Prim.Native.Nat.{ℕ}
 use lib.ListN.{length, set}
 use Rattle.fdt_values.specs.Value.{Value, raw, cells, texts, valueBytes}
@@ -9,6 +9,8 @@ use Rattle.fdt_record.specs.declared.Answer.{Answer}
 use Rattle.fdt_record.specs.declared.Answer.the-variants.{Done}
 use Rattle.fdt_record.specs.declared.Record.{Record}
 use Rattle.fdt_record.specs.Answers.{upon}
+use Rattle.fdt_record.specs.Rows.{Row}
+use Rattle.fdt_record.specs.Tests.{aloneRows}
 use Rattle.fdt_opening.specs.Opening as of-opening
 use Rattle.fdt_nodes.specs.Begin as of-begin
 use Rattle.fdt_nodes.specs.End as of-end
@@ -115,6 +117,20 @@ answer (to-have name v) s = of-property.propertyAnswer (s .writer) (s .blob) (s 
 answer (to-mark value) s = of-phandle.phandle (s .writer) (s .blob) (s .strings) (s .phandles) value .answer
 answer to-finish s = of-finish.finishAnswer (s .writer) (length (s .blob)) (s .strings)
 answer to-show s = Done
+
+-- the tests of a call in document 01's order, each with the answer that it gets. A phandle call makes its own tests, and then, with
+-- its value recorded, those of a property. Showing makes none.
+unfoldable pub rows : Request → Desk → List Row
+rows (to-open numbers) s = of-opening.openingRows (length (s .blob)) (length (s .strings)) (length (s .phandles)) numbers
+rows (to-boot n) s = aloneRows (s .writer)
+rows (to-begin name) s = of-begin.beginRows (s .writer) (length (s .blob)) name
+rows (to-end handle) s = of-end.endRows (s .writer) (length (s .blob)) handle
+rows (to-have name v) s = of-property.propertyRows (s .writer) (s .blob) (s .strings) name v
+rows (to-mark value) s =
+    of-phandle.recordRows (s .writer) (length (s .blob)) (s .strings) (s .phandles) value
+    ++ of-property.propertyRows (of-phandle.recorded (s .writer)) (s .blob) (s .strings) of-phandle.phandleName (of-phandle.phandleValue value)
+rows to-finish s = of-finish.finishRows (s .writer) (length (s .blob)) (s .strings)
+rows to-show s = []
 
 -- the record that is returned, and the buffers afterwards
 unfoldable pub after : Request → Desk → Desk

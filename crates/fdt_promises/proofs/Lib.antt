@@ -7,7 +7,6 @@ pub mod Fitting
 pub mod Foreign
 pub mod Growth
 pub mod Held
-pub mod NeverGiven
 pub mod OwnBytes
 pub mod PastUsable
 pub mod Runs
