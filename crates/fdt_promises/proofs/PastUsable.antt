@@ -1,10 +1,11 @@
 -- No call reads past the usable length: with the same usable parts it answers the same and leaves the same usable parts.
 use mathlib.Core.Path.{_≡_, refl, ap, subst, _∙_}
-use mathlib.Core.Bool.{true, false}
+use mathlib.Core.Bool.{Bool, true, false, cond, _&&_}
 use mathlib.Core.List.{List, [], _∷_, _++_}
 use Prim.Native.Nat.{ℕ, _+_}
 use native.Mathlib.Omega.{arith}
-use lib.Dec.{leb}
+use borrow.Author.Tests.{eqb-true, leb-true}
+use lib.Dec.{eqb, leb}
 use lib.ListN.{length, take}
 use lib.Seq.{length-take-le}
 use Rattle.fdt_bytes.specs.Splice.{splice}
@@ -18,6 +19,7 @@ use Rattle.fdt_values.specs.Value.{Value, valueBytes, misfitValue, zeroValue}
 use Rattle.fdt_names.specs.Names.{oneOf}
 use Rattle.fdt_record.specs.declared.Answer.{Answer}
 use Rattle.fdt_record.specs.declared.Answer.the-variants.{Misfit, DuplicatePhandle, PhandleRoom}
+use Rattle.fdt_record.specs.declared.Outcome.{Outcome}
 use Rattle.fdt_record.specs.declared.Record.{Record}
 use Rattle.fdt_record.specs.Answers.{accepts, upon}
 use Rattle.fdt_record.specs.Limits.{blobCeiling, stringsCeiling, phandlesCeiling, usable}
@@ -37,15 +39,20 @@ use Rattle.fdt_header.proofs.HeaderBytes.{length-header}
 use Rattle.fdt_format.proofs.Tokens.{length-end, length-final}
 use Rattle.fdt_opening.specs.Opening.{openingRows, openingAnswer, openedRecord, openingBytes, opening, openingBlob}
 use Rattle.fdt_opening.proofs.Opening.{opened-fits, length-openingBytes}
+use Rattle.fdt_nodes.specs.declared.Begun.{Begun}
 use Rattle.fdt_nodes.specs.Begin.{beginRows, beginAnswer, begin, beginBlob}
 use Rattle.fdt_nodes.specs.End.{endRows, endAnswer, end, endBlob}
 use Rattle.fdt_nodes.proofs.Begin.{begin-fits}
 use Rattle.fdt_nodes.proofs.End.{end-fits}
-use Rattle.fdt_promises.specs.Effects.{SameUsable}
 use Rattle.fdt_phandles.specs.Phandle.{phandleName, phandleValue, recordRows, recordAnswer, recorded, phandle, phandleBlob, phandleStrings, phandleTable}
 use Rattle.fdt_phandles.proofs.Phandles.{record-fits}
 use Rattle.fdt_finish.specs.Finish.{usedStrings, finishRows, finishAnswer, finishedBlob, finish, finishBlob}
 use Rattle.fdt_finish.proofs.Finishing.{finish-exactly, finish-fits}
+use Rattle.fdt_finish.specs.Boot.{boot}
+use Rattle.fdt_finish.specs.Shown.{showable, shown}
+use Rattle.fdt_calls.specs.Calls.{Request, to-open, to-boot, to-begin, to-end, to-have, to-mark, to-finish, to-show, Desk, answer, after}
+use Rattle.fdt_calls.specs.Called.{shownPart}
+use Rattle.fdt_promises.specs.Effects.{SameUsable, Alike}
 use Rattle.fdt_promises.proofs.Usable.{same-length, same-front, same-splice, same-set, same-misfit-blob, same-misfit-strings, same-upon}
 
 -- A blob with the same usable part.
@@ -56,7 +63,7 @@ module _ (xs ys : List ℕ) (same : SameUsable blobCeiling xs ys) where
     unfolding openingAnswer openingRows openedRecord
     same-opening = simp (same-length blobCeiling xs ys same, h, k)
 
-    pub usable-opening : (opening (length xs) s p numbers ≡ opening (length ys) t q numbers) × SameUsable blobCeiling (openingBlob xs s p numbers) (openingBlob ys t q numbers)
+    usable-opening : (opening (length xs) s p numbers ≡ opening (length ys) t q numbers) × SameUsable blobCeiling (openingBlob xs s p numbers) (openingBlob ys t q numbers)
     unfolding opening openingBlob openedRecord
     usable-opening = (
       simp (same-opening, same-length blobCeiling xs ys same, h, k),
@@ -70,7 +77,7 @@ module _ (xs ys : List ℕ) (same : SameUsable blobCeiling xs ys) where
   unfolding beginAnswer beginRows blobRows
   same-begin w name = simp (same-misfit-blob w xs ys same)
 
-  pub usable-begin : (w : Record) (name : List ℕ) → (begin w xs name ≡ begin w ys name) × SameUsable blobCeiling (beginBlob w xs name) (beginBlob w ys name)
+  usable-begin : (w : Record) (name : List ℕ) → (begin w xs name ≡ begin w ys name) × SameUsable blobCeiling (beginBlob w xs name) (beginBlob w ys name)
   unfolding begin beginBlob
   usable-begin w name = (
     simp (same-begin w name),
@@ -84,7 +91,7 @@ module _ (xs ys : List ℕ) (same : SameUsable blobCeiling xs ys) where
   unfolding endAnswer endRows blobRows
   same-end w handle = simp (same-misfit-blob w xs ys same)
 
-  pub usable-end : (w : Record) (handle : ℕ) → (end w xs handle ≡ end w ys handle) × SameUsable blobCeiling (endBlob w xs handle) (endBlob w ys handle)
+  usable-end : (w : Record) (handle : ℕ) → (end w xs handle ≡ end w ys handle) × SameUsable blobCeiling (endBlob w xs handle) (endBlob w ys handle)
   unfolding end endBlob
   usable-end w handle = (
     simp (same-end w handle),
@@ -93,6 +100,22 @@ module _ (xs ys : List ℕ) (same : SameUsable blobCeiling xs ys) where
         let f = end-fits w (length xs) handle (accepts-done (endAnswer w (length xs) handle) e) in
         same-splice blobCeiling (w .«blob_used») endBytes xs ys same (omega (arith, f .blob .room, f .room, length-end))),
   )
+
+  -- what is shown
+  usable-show : (w : Record) → shown w xs ≡ shown w ys
+  unfolding shown showable
+  usable-show w =
+      let u = usable blobCeiling (length xs) in
+      let n = same-length blobCeiling xs ys same in
+      go (w .finished) (eqb u (w .«blob_room»)) (leb (w .«blob_used») (w .«blob_room»)) refl refl
+      ∙ ap (λ (k : ℕ). cond (w .finished && (eqb k (w .«blob_room») && leb (w .«blob_used») (w .«blob_room»))) (take (w .«blob_used») ys) []) n
+    where
+      go : (a b c : Bool) → eqb (usable blobCeiling (length xs)) (w .«blob_room») ≡ b → leb (w .«blob_used») (w .«blob_room») ≡ c → cond (a && (b && c)) (take (w .«blob_used») xs) [] ≡ cond (a && (b && c)) (take (w .«blob_used») ys) []
+      go true true true e f =
+          same-front blobCeiling (w .«blob_used») xs ys same (omega (arith, eqb-true (usable blobCeiling (length xs)) (w .«blob_room») e, leb-true (w .«blob_used») (w .«blob_room») f))
+      go true true false e f = refl
+      go true false c e f = refl
+      go false b c e f = refl
 
   -- Strings with the same usable part.
   module _ (ss ts : List ℕ) (alike : SameUsable stringsCeiling ss ts) where
@@ -104,7 +127,7 @@ module _ (xs ys : List ℕ) (same : SameUsable blobCeiling xs ys) where
     same-used : (w : Record) → FitStrings w ss → take (w .«strings_used») ss ≡ take (w .«strings_used») ts
     same-used w f = same-front stringsCeiling (w .«strings_used») ss ts alike (omega (arith, f .room, f .used))
 
-    pub usable-finish : (w : Record) → (finish w (length xs) ss ≡ finish w (length ys) ts) × SameUsable blobCeiling (finishBlob w xs ss) (finishBlob w ys ts)
+    usable-finish : (w : Record) → (finish w (length xs) ss ≡ finish w (length ys) ts) × SameUsable blobCeiling (finishBlob w xs ss) (finishBlob w ys ts)
     unfolding finish finishBlob finishedBlob usedStrings finishRows stringsRows blobRows aloneRows NoneHolds
     usable-finish w = (
       simp (same-finish w),
@@ -166,7 +189,7 @@ module _ (xs ys : List ℕ) (same : SameUsable blobCeiling xs ys) where
           same-splice stringsCeiling offset (entry name) ss ts alike (omega (arith, s .fits, f .room))
       within f place.StringRoom e = alike
 
-      pub usable-property :
+      usable-property :
           (property w xs ss name v ≡ property w ys ts name v)
           × SameUsable blobCeiling (propertyBlob w xs ss name v) (propertyBlob w ys ts name v)
           × SameUsable stringsCeiling (propertyStrings w xs ss name v) (propertyStrings w ys ts name v)
@@ -230,7 +253,7 @@ module _ (xs ys : List ℕ) (same : SameUsable blobCeiling xs ys) where
           append-same (first-tests (length xs) ss ps) (first-tests (length ys) ts qs) (table-tests ps) (table-tests qs)
           (refusals (length xs) ss ps) (refusals (length ys) ts qs) same-first (λ e. same-table (phandles-fit e))
 
-      pub usable-phandle :
+      usable-phandle :
           (phandle w xs ss ps value ≡ phandle w ys ts qs value)
           × SameUsable blobCeiling (phandleBlob w xs ss ps value) (phandleBlob w ys ts qs value)
           × SameUsable stringsCeiling (phandleStrings w xs ss ps value) (phandleStrings w ys ts qs value)
@@ -246,3 +269,54 @@ module _ (xs ys : List ℕ) (same : SameUsable blobCeiling xs ys) where
                 let f = record-fits w (length xs) ss ps value (accepts-done (recordAnswer w (length xs) ss ps value) e) in
                 same-set phandlesCeiling (w .«phandles_used») value ps qs akin (omega (arith, f .phandles .room, f .room))),
           )
+
+-- ---- every call
+
+-- desks that are alike, with one record
+module _ (w : Record) (xs ys ss ts ps qs : List ℕ) (b : SameUsable blobCeiling xs ys) (n : SameUsable stringsCeiling ss ts) (p : SameUsable phandlesCeiling ps qs) where
+  one : Desk
+  one = record { writer = w; blob = xs; strings = ss; phandles = ps }
+
+  other : Desk
+  other = record { writer = w; blob = ys; strings = ts; phandles = qs }
+
+  alike-after : (c : Request) → (answer c one ≡ answer c other) × Alike (after c one) (after c other)
+  unfolding answer after one other opening boot begin end property finish
+  alike-after (to-open numbers) =
+      let u = usable-opening xs ys b (length ss) (length ts) (length ps) (length qs) numbers (same-length stringsCeiling ss ts n) (same-length phandlesCeiling ps qs p) in
+      (ap (λ (o : Outcome). o .answer) (u .0), record { writer = ap (λ (o : Outcome). o .after) (u .0); blob = u .1; strings = n; phandles = p })
+  alike-after (to-boot m) = (refl, record { writer = refl; blob = b; strings = n; phandles = p })
+  alike-after (to-begin name) =
+      let u = usable-begin xs ys b w name in
+      (ap (λ (o : Begun). o .answer) (u .0), record { writer = ap (λ (o : Begun). o .after) (u .0); blob = u .1; strings = n; phandles = p })
+  alike-after (to-end handle) =
+      let u = usable-end xs ys b w handle in
+      (ap (λ (o : Outcome). o .answer) (u .0), record { writer = ap (λ (o : Outcome). o .after) (u .0); blob = u .1; strings = n; phandles = p })
+  alike-after (to-have name v) =
+      let u = usable-property xs ys b ss ts n w name v in
+      (ap (λ (o : Outcome). o .answer) (u .0), record { writer = ap (λ (o : Outcome). o .after) (u .0); blob = u .1; strings = u .2; phandles = p })
+  alike-after (to-mark value) =
+      let u = usable-phandle xs ys b ss ts n ps qs p w value in
+      (ap (λ (o : Outcome). o .answer) (u .0), record { writer = ap (λ (o : Outcome). o .after) (u .0); blob = u .1; strings = u .2; phandles = u .3 })
+  alike-after to-finish =
+      let u = usable-finish xs ys b ss ts n w in
+      (ap (λ (o : Outcome). o .answer) (u .0), record { writer = ap (λ (o : Outcome). o .after) (u .0); blob = u .1; strings = n; phandles = p })
+  alike-after to-show = (refl, record { writer = refl; blob = b; strings = n; phandles = p })
+
+module _ (s t : Desk) (a : Alike s t) where
+  -- the second desk, with the first one's record
+  near : Desk
+  near = record { writer = s .writer; blob = t .blob; strings = t .strings; phandles = t .phandles }
+
+  same-writer : near ≡ t
+  unfolding near
+  same-writer = ap (λ (w : Record). record { writer = w; blob = t .blob; strings = t .strings; phandles = t .phandles }) (a .writer)
+
+  pub past-usable : (c : Request) → (answer c s ≡ answer c t) × Alike (after c s) (after c t)
+  unfolding near one other
+  past-usable c =
+      subst (λ (d : Desk). (answer c s ≡ answer c d) × Alike (after c s) (after c d)) same-writer
+      (alike-after (s .writer) (s .blob) (t .blob) (s .strings) (t .strings) (s .phandles) (t .phandles) (a .blob) (a .strings) (a .phandles) c)
+
+  pub shown-usable : shownPart s ≡ shownPart t
+  shown-usable = usable-show (s .blob) (t .blob) (a .blob) (s .writer) ∙ ap (λ (w : Record). shown w (t .blob)) (a .writer)
