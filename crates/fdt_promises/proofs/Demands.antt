@@ -22,7 +22,8 @@ use Rattle.fdt_calls.proofs.Refused.{refused-after}
 use Rattle.fdt_promises.specs.Run.{phandlesOf, tells, eventsOf, bootOf, Holds, Fits, Misgiven, Run, allAsk, opened-desk, desk, history, description, Finishes, blob}
 use Rattle.fdt_promises.specs.Foreign.{AllRead, foreign}
 use Rattle.fdt_promises.specs.Starred.{allHold, starred}
-use Rattle.fdt_promises.proofs.Described.{run-holds, run-fits, run-given, run-shown, run-length, run-read, same-runs, same-history, same-kinds}
+use Rattle.fdt_promises.proofs.Described.{run-holds, run-fits, run-given, run-shown, run-length, run-read, same-runs, same-history}
+use Rattle.fdt_promises.proofs.Idle.{same-kinds}
 use Rattle.fdt_promises.proofs.Foreign.{foreign-read}
 use Rattle.fdt_promises.proofs.Starred.{starred-hold}
 

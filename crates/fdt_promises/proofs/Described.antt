@@ -1,16 +1,14 @@
 -- A run's description and its blob: from what the desk holds before finish, through finish, to the reading of the blob.
 use mathlib.Core.Path.{_≡_, sym, ap, _∙_}
 use mathlib.Core.Bool.{false}
-use mathlib.Core.List.{List, [], _∷_}
+use mathlib.Core.List.{List}
 use mathlib.Core.Logic.{_↔_}
 use mathlib.Core.Option.{some, Option·some-injective}
 use Prim.Native.Nat.{ℕ, _+_}
 use lib.ListN.{length}
 use Rattle.fdt_strings.specs.Entries.{joined}
-use Rattle.fdt_values.specs.Value.{Value, valueBytes}
 use Rattle.fdt_format.specs.Blob.{namesOf, structureBytes, eventsSize, blobFrom, blobOf, WellFormed}
-use Rattle.fdt_format.specs.Description.{_≔_, Description}
-use Rattle.fdt_format.specs.Events.{has}
+use Rattle.fdt_format.specs.Description.{Description}
 use Rattle.fdt_header.specs.Header.{structureStart}
 use Rattle.fdt_format.specs.Reading.{reading}
 use Rattle.fdt_format.proofs.ReadBack.{length-from, read-blob}
@@ -19,8 +17,8 @@ use Rattle.fdt_record.specs.declared.Answer.the-variants.{Misfit}
 use Rattle.fdt_opening.specs.Opening.{count}
 use Rattle.fdt_opening.proofs.Opening.{OpeningFits, opened-fits}
 use Rattle.fdt_finish.proofs.Finishing.{finish-fits}
-use Rattle.fdt_calls.specs.Calls.{Call, asks, to-have, effect, answer}
-use Rattle.fdt_promises.specs.Run.{phandlesOf, told, tells, eventsOf, bootOf, Holds, Fits, Misgiven, reservationsOf, withNodes, describe, Run, allAsk, opened-desk, desk, history, description, Finishes, blob}
+use Rattle.fdt_calls.specs.Calls.{Call, asks, answer}
+use Rattle.fdt_promises.specs.Run.{bootOf, Holds, Fits, Misgiven, reservationsOf, withNodes, describe, Run, allAsk, opened-desk, desk, history, eventsIn, bootIn, marksIn, description, Finishes, blob}
 use Rattle.fdt_promises.proofs.Ended.{count-paired, shown-bytes, nodes-told, well-formed}
 use Rattle.fdt_promises.proofs.Fitting.{open-fits, only-given}
 use Rattle.fdt_promises.proofs.Held.{Open}
@@ -35,11 +33,11 @@ record Told (r : Run) : Type 0 where
 
 module _ (r : Run) where
   -- a run that is not finished is open
-  run-open : desk r .writer .finished ≡ false → Open (r .numbers) (eventsOf (history r)) (bootOf (history r)) (phandlesOf (allAsk (r .calls)) (opened-desk r)) (desk r)
+  run-open : desk r .writer .finished ≡ false → Open (r .numbers) (eventsIn r) (bootIn r) (marksIn r) (desk r)
   unfolding desk history opened-desk bootOf
   run-open u = runs-open (allAsk (r .calls)) (r .between) (opened-open (r .before) (r .numbers) (r .opened)) u
 
-  pub run-holds : desk r .writer .finished ≡ false → Holds (r .numbers) (eventsOf (history r)) (bootOf (history r)) (phandlesOf (allAsk (r .calls)) (opened-desk r)) (desk r)
+  pub run-holds : desk r .writer .finished ≡ false → Holds (r .numbers) (eventsIn r) (bootIn r) (marksIn r) (desk r)
   run-holds u = run-open u .holds
 
   -- while it is open, 17 is answered only for what a call is given
@@ -56,11 +54,11 @@ module _ (r : Run) where
 
   module _ (f : Finishes r) where
     -- before its finish it is open
-    at-end : Open (r .numbers) (eventsOf (history r)) (bootOf (history r)) (phandlesOf (allAsk (r .calls)) (opened-desk r)) (desk r)
+    at-end : Open (r .numbers) (eventsIn r) (bootIn r) (marksIn r) (desk r)
     unfolding Finishes answer
     at-end = run-open (finish-fits (desk r .writer) (length (desk r .blob)) (desk r .strings) f .unmarked)
 
-    shown-from : blob r ≡ blobFrom (reservationsOf (r .numbers)) (bootOf (history r)) (eventsOf (history r))
+    shown-from : blob r ≡ blobFrom (reservationsOf (r .numbers)) (bootIn r) (eventsIn r)
     unfolding Finishes blob
     shown-from = shown-bytes at-end f (opening-fits .even)
 
@@ -69,19 +67,19 @@ module _ (r : Run) where
     run-told =
         let n = nodes-told at-end f in
         record {
-          told = record { reservations = reservationsOf (r .numbers); boot = bootOf (history r); nodes = n .0 };
-          is = ap (withNodes (reservationsOf (r .numbers)) (bootOf (history r))) (n .1);
-          bytes = shown-from ∙ ap (blobFrom (reservationsOf (r .numbers)) (bootOf (history r))) (sym (n .2));
+          told = record { reservations = reservationsOf (r .numbers); boot = bootIn r; nodes = n .0 };
+          is = ap (withNodes (reservationsOf (r .numbers)) (bootIn r)) (n .1);
+          bytes = shown-from ∙ ap (blobFrom (reservationsOf (r .numbers)) (bootIn r)) (sym (n .2));
           fits = well-formed at-end f (opening-fits .even) (opening-fits .valid) (at-end .small) (n .0) (n .2);
         }
 
     pub run-shown : (d : Description) × (description r ≡ some d) × (blob r ≡ blobOf d)
     run-shown = (run-told .told, run-told .is, run-told .bytes)
 
-    pub run-length : length (blob r) ≡ structureStart (count (r .numbers)) + eventsSize (eventsOf (history r)) + 4 + length (joined (namesOf (eventsOf (history r))))
+    pub run-length : length (blob r) ≡ structureStart (count (r .numbers)) + eventsSize (eventsIn r) + 4 + length (joined (namesOf (eventsIn r)))
     run-length =
-        let es = eventsOf (history r) in
-        ap length shown-from ∙ length-from (reservationsOf (r .numbers)) (bootOf (history r)) es
+        let es = eventsIn r in
+        ap length shown-from ∙ length-from (reservationsOf (r .numbers)) (bootIn r) es
         ∙ ap (λ (n : ℕ). structureStart n + length (structureBytes (namesOf es) es) + 4 + length (joined (namesOf es))) (count-paired (r .numbers) (opening-fits .even))
         ∙ ap (λ (n : ℕ). structureStart (count (r .numbers)) + n + 4 + length (joined (namesOf es))) (structure-size (namesOf es) es)
 
@@ -100,7 +98,3 @@ module _ (r q : Run) where
   pub same-history : r .numbers ≡ q .numbers → history r ≡ history q → description r ≡ description q
   unfolding description
   same-history e f = ap (λ (n : List ℕ). describe n (history r)) e ∙ ap (describe (q .numbers)) f
-
-pub same-kinds : (name : List ℕ) (v u : Value) → valueBytes v ≡ valueBytes u → tells (to-have name v) ≡ tells (to-have name u)
-unfolding effect told
-same-kinds name v u e = ap (λ (l : List ℕ). has (name ≔ l) ∷ []) e

@@ -1,4 +1,3 @@
-pub mod Composed
 pub mod Demands
 pub mod Described
 pub mod Desks
@@ -7,6 +6,7 @@ pub mod Fitting
 pub mod Foreign
 pub mod Growth
 pub mod Held
+pub mod Idle
 pub mod OwnBytes
 pub mod PastUsable
 pub mod Runs

@@ -13,12 +13,12 @@ use Rattle.fdt_format.specs.Description.{_≔_, Nodes, Reservation, reserved, D
 use Rattle.fdt_format.specs.Events.{Event, begins, has, ends, nodesOf}
 use Rattle.fdt_header.specs.Header.{headerSize, structureStart, reservationBytes}
 use Rattle.fdt_record.specs.declared.Answer.the-variants.{Done}
-use Rattle.fdt_record.specs.Answers.{upon}
+use Rattle.fdt_record.specs.Answers.{accepts, upon}
 use Rattle.fdt_record.specs.Limits.{blobCeiling, stringsCeiling, phandlesCeiling, usable}
 use Rattle.fdt_record.specs.Misfits.{misfitRecord, misfitBlob, misfitStrings, misfitPhandles}
 use Rattle.fdt_opening.specs.Opening.{count}
 use Rattle.fdt_phandles.specs.Phandle.{phandleName, phandleValue}
-use Rattle.fdt_calls.specs.Calls.{Call, new-with-mem-reserv, property-string-list, asks, Request, to-open, to-finish, Effect, opens, sets-boot, adds, records, nothing, effect, Desk, answer, after, markAnswer}
+use Rattle.fdt_calls.specs.Calls.{Call, new-with-mem-reserv, property-string-list, asks, Request, to-open, to-finish, to-show, Effect, opens, sets-boot, adds, records, nothing, effect, Desk, answer, after, markAnswer}
 use Rattle.fdt_calls.specs.Called.{shownPart}
 
 -- ---- calls one after the other
@@ -182,6 +182,18 @@ desk r = runs (allAsk (r .calls)) (opened-desk r)
 unfoldable pub history : Run → List Request
 history r = accepted (allAsk (r .calls)) (opened-desk r)
 
+-- the events of the accepted calls
+abbrev pub eventsIn : Run → List Event
+eventsIn r = eventsOf (history r)
+
+-- the boot number that the accepted calls leave
+abbrev pub bootIn : Run → ℕ
+bootIn r = bootOf (history r)
+
+-- the phandles that were recorded
+abbrev pub marksIn : Run → List ℕ
+marksIn r = phandlesOf (allAsk (r .calls)) (opened-desk r)
+
 -- what the run describes
 unfoldable pub description : Run → Option Description
 description r = describe (r .numbers) (history r)
@@ -193,6 +205,22 @@ Finishes r = answer to-finish (desk r) ≡ Done
 -- the blob that is shown then
 unfoldable pub blob : Run → List ℕ
 blob r = shownPart (after to-finish (desk r))
+
+-- a call that changes nothing: showing, or a call that is refused and records no phandle
+pub data Idle (s : Desk) : Request → Type 0 where
+  shows : Idle s to-show
+  refused : (c : Request) → accepts (answer c s) ≡ false → recordedBy (effect c) s ≡ [] → Idle s c
+
+-- the run q is the run r with one more such call among the others
+pub record OneMore (r q : Run) : Type 0 where
+  pub same-before : q .before ≡ r .before
+  pub same-numbers : q .numbers ≡ r .numbers
+  pub earlier : List Call
+  pub extra : Call
+  pub later : List Call
+  pub without : r .calls ≡ earlier ++ later
+  pub with-it : q .calls ≡ earlier ++ (extra ∷ later)
+  pub idle : Idle (runs (allAsk earlier) (opened-desk r)) (asks extra)
 
 -- ---- misfit 17
 
