@@ -2,6 +2,7 @@ pub mod Demands
 pub mod Described
 pub mod Desks
 pub mod Ended
+pub mod Examples
 pub mod Fitting
 pub mod Foreign
 pub mod Growth

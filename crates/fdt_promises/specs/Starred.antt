@@ -15,6 +15,7 @@ use Rattle.fdt_nodes.specs.Begin.{begin, begunRecord}
 use Rattle.fdt_properties.specs.Property.{property}
 use Rattle.fdt_finish.specs.Finish.{finish, finishBlob}
 use Rattle.fdt_finish.specs.Shown.{shown}
+use Rattle.fdt_promises.specs.Examples.{dirty, emptyWords}
 
 -- a case: a number that a call answers, or bytes that it leaves, and what document 01 says they are
 pub data Case : Type 0 where
@@ -30,10 +31,6 @@ holds (leaves given expected) = same given expected
 unfoldable pub allHold : List Case → Bool
 allHold [] = true
 allHold (c ∷ cs) = holds c && allHold cs
-
--- buffers with earlier contents
-unfoldable pub dirty : ℕ → List ℕ
-dirty n = replicate n 238
 
 -- the record of a fresh writer over buffers of 256 bytes, 64 bytes and 4 entries
 unfoldable pub fresh : Record
@@ -99,7 +96,7 @@ starred =
     ∷ answers (openWith (4096 ∷ 4096 ∷ 0 ∷ 4097 ∷ [])) 9
     -- empty run, whole blob of 60 bytes, in words; with 59 bytes lent, opening is taken and finish refused 14
     ∷ answers (emptyRun 60) 0
-    ∷ leaves (emptyBlob 60) (cellBytes 4 (0xd00dfeed ∷ 0x3c ∷ 0x38 ∷ 0x3c ∷ 0x28 ∷ 0x11 ∷ 0x10 ∷ 0 ∷ 0 ∷ 4 ∷ 0 ∷ 0 ∷ 0 ∷ 0 ∷ 9 ∷ []))
+    ∷ leaves (emptyBlob 60) (cellBytes 4 emptyWords)
     ∷ answers (numberOf (opening 59 0 0 [] .answer)) 0
     ∷ answers (emptyRun 59) 14
     ∷ []
