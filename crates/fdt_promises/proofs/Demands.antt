@@ -1,12 +1,14 @@
 -- What is promised about the writer. Read this file first: it only states the promises, and the proofs are in the files beside it.
+-- The calls, their tests, answers and effects are defined in fdt_calls, specs/Calls.antt; a run in specs/Run.antt.
 use mathlib.Core.Path.{_≡_}
 use mathlib.Core.Bool.{true, false}
-use mathlib.Core.List.{List}
+use mathlib.Core.List.{List, []}
 use mathlib.Core.Logic.{_↔_}
 use mathlib.Core.Option.{some}
 use Prim.Native.Nat.{ℕ, _+_}
 use lib.ListN.{length}
-use Rattle.fdt_strings.specs.Entries.{joined}
+use Rattle.fdt_bytes.specs.BigEndian.{cellBytes}
+use Rattle.fdt_strings.specs.Entries.{entry, joined}
 use Rattle.fdt_values.specs.Value.{Value, valueBytes}
 use Rattle.fdt_format.specs.Blob.{namesOf, eventsSize, blobOf, WellFormed}
 use Rattle.fdt_format.specs.Description.{Description}
@@ -14,30 +16,81 @@ use Rattle.fdt_header.specs.Header.{structureStart}
 use Rattle.fdt_format.specs.Reading.{reading}
 use Rattle.fdt_format.proofs.ReadBack.{read-blob}
 use Rattle.fdt_format.proofs.Strings.{Distinct, names-once}
-use Rattle.fdt_record.specs.declared.Answer.the-variants.{Misfit}
+use Rattle.fdt_record.specs.declared.Answer.{Answer}
+use Rattle.fdt_record.specs.declared.Answer.the-variants.{Done, Misfit}
 use Rattle.fdt_record.specs.Answers.{accepts}
+use Rattle.fdt_record.specs.Rows.{first}
+use Rattle.fdt_record.proofs.Rows.{NoneHolds, Given}
 use Rattle.fdt_opening.specs.Opening.{count}
-use Rattle.fdt_calls.specs.Calls.{Call, asks, to-have, Desk, answer, after, unaltered}
+use Rattle.fdt_phandles.specs.Phandle.{phandleName}
+use Rattle.fdt_calls.specs.Calls.{Call, property, property-string, property-u32, property-array-u32, property-array-u64, property-phandle, asks, to-have, Desk, answer, rows, after, markAnswer, marked, unaltered}
+use Rattle.fdt_calls.specs.Called.{Called, shownPart}
+use Rattle.fdt_calls.proofs.OneOutcome.{one-called}
 use Rattle.fdt_calls.proofs.Refused.{refused-after}
-use Rattle.fdt_promises.specs.Run.{phandlesOf, tells, eventsOf, bootOf, Holds, Fits, Misgiven, Run, allAsk, opened-desk, desk, history, description, Finishes, blob}
+use Rattle.fdt_calls.proofs.Table.{Neither34, first-row, answers-exactly, never-given}
+use Rattle.fdt_promises.specs.Effects.{own, ownEntry, Changed, Alike}
+use Rattle.fdt_promises.specs.Run.{tells, reservationsOf, Holds, Fits, Misgiven, Run, desk, history, eventsIn, bootIn, marksIn, description, Finishes, blob, OneMore}
+use Rattle.fdt_promises.specs.Examples.{emptyWords, nodeWords}
 use Rattle.fdt_promises.specs.Foreign.{AllRead, foreign}
 use Rattle.fdt_promises.specs.Starred.{allHold, starred}
+use Rattle.fdt_promises.proofs.OwnBytes.{recorded-own, only-own}
+use Rattle.fdt_promises.proofs.PastUsable.{past-usable, shown-usable}
 use Rattle.fdt_promises.proofs.Described.{run-holds, run-fits, run-given, run-shown, run-length, run-read, same-runs, same-history}
-use Rattle.fdt_promises.proofs.Idle.{same-kinds}
+use Rattle.fdt_promises.proofs.Examples.{empty-run, node-run, examples-shown}
 use Rattle.fdt_promises.proofs.Foreign.{foreign-read}
+use Rattle.fdt_promises.proofs.Idle.{same-told, same-kinds, kinds-as-bytes, same-phandle, one-more}
 use Rattle.fdt_promises.proofs.Starred.{starred-hold}
 
--- Demand 1. A refused call alters nothing, except in the one case that `unaltered` names. This holds for any call with any
--- arguments, over any record and buffers of any size.
+-- ---- demand 1: any call with any arguments, over any record and buffers of any size
+
+-- Every method of `FdtWriter` states `Called` of its own call. Two results that satisfy it are equal: the answer, the record and
+-- every byte and entry lent.
+pub one-outcome : {c : Call} {s : Desk} {a b : Answer} {t u : Desk} → Called c s a t → Called c s b u → (a ≡ b) × (t ≡ u)
+one-outcome = one-called
+
+-- What a call cannot serve gets the refusal of document 01's table: the answer is the first of the call's rows that holds.
+pub answer-by-table : (c : Call) (s : Desk) → answer (asks c) s ≡ first (rows (asks c) s)
+answer-by-table c s = first-row (asks c) s
+
+-- A call is accepted exactly when no row holds.
+pub accepted-exactly : (c : Call) (s : Desk) → (answer (asks c) s ≡ Done) ↔ NoneHolds (rows (asks c) s)
+accepted-exactly c s = answers-exactly (asks c) s .accepted
+
+-- It gets a refusal exactly when a row with that refusal holds and no earlier row does.
+pub refused-exactly : (c : Call) (s : Desk) (a : Answer) → accepts a ≡ false → (answer (asks c) s ≡ a) ↔ Given (rows (asks c) s) a
+refused-exactly c s = answers-exactly (asks c) s .refused
+
+-- 3 and 4 are never given.
+pub never-3-or-4 : (c : Call) (s : Desk) → Neither34 (answer (asks c) s)
+never-3-or-4 c s = never-given (asks c) s
+
+-- A refused call alters nothing, except in the one case that `unaltered` names.
 pub demand-1 : (c : Call) (s : Desk) → accepts (answer (asks c) s) ≡ false → after (asks c) s ≡ unaltered (asks c) s
 demand-1 c s = refused-after s (asks c)
 
--- After every call of a run, until it is finished: the used part of each buffer and every figure of the record, counted from the
--- accepted calls.
-pub after-every-call : (r : Run) → desk r .writer .finished ≡ false → Holds (r .numbers) (eventsOf (history r)) (bootOf (history r)) (phandlesOf (allAsk (r .calls)) (opened-desk r)) (desk r)
+-- An accepted call changes only its own bytes and entries, all of them within the usable lengths.
+pub own-bytes-alone : (c : Call) (s : Desk) → answer (asks c) s ≡ Done → Changed (own (asks c) s) s (after (asks c) s)
+own-bytes-alone c s = only-own (asks c) s
+
+-- The one exception too: recording a phandle changes only one entry of the table, within its usable length.
+pub own-entry-alone : (s : Desk) (value : ℕ) → markAnswer value s ≡ Done → Changed (record { blob = []; strings = []; phandles = ownEntry s }) s (marked s value)
+own-entry-alone = recorded-own
+
+-- Nothing past the usable lengths makes a difference: neither to the answer, nor to the record and the usable parts afterwards,
+pub usable-parts-alone : (c : Call) (s t : Desk) → Alike s t → (answer (asks c) s ≡ answer (asks c) t) × Alike (after (asks c) s) (after (asks c) t)
+usable-parts-alone c s t a = past-usable s t a (asks c)
+
+-- nor to what is shown.
+pub shown-of-usable : (s t : Desk) → Alike s t → shownPart s ≡ shownPart t
+shown-of-usable = shown-usable
+
+-- ---- after every call of a run, until it is finished
+
+-- The used part of each buffer and every figure of the record are counted from the accepted calls.
+pub after-every-call : (r : Run) → desk r .writer .finished ≡ false → Holds (r .numbers) (eventsIn r) (bootIn r) (marksIn r) (desk r)
 after-every-call = run-holds
 
--- Until the run is finished, the record fits the run's own buffers: no test of misfit 17 finds a fault in them.
+-- The record fits the run's own buffers: no test of misfit 17 finds a fault in them.
 pub never-misfit : (r : Run) → desk r .writer .finished ≡ false → Fits (desk r)
 never-misfit = run-fits
 
@@ -47,15 +100,17 @@ pub misfit-of-arguments : (r : Run) → desk r .writer .finished ≡ false → (
 misfit-of-arguments = run-given
 
 -- No name is in the strings twice.
-pub each-name-once : (r : Run) → Distinct (namesOf (eventsOf (history r)))
-each-name-once r = names-once (eventsOf (history r))
+pub each-name-once : (r : Run) → Distinct (namesOf (eventsIn r))
+each-name-once r = names-once (eventsIn r)
+
+-- ---- demands 2 and 3: the finished blob
 
 -- After an accepted finish, the shown blob is exactly the bytes of what the run describes.
 pub blob-is-description : (r : Run) → Finishes r → (d : Description) × (description r ≡ some d) × (blob r ≡ blobOf d)
 blob-is-description = run-shown
 
 -- Its length is 56, plus 16 for each reservation, plus the sizes of the accepted calls, plus 4 for the last word, plus the strings.
-pub length-of-blob : (r : Run) → Finishes r → length (blob r) ≡ structureStart (count (r .numbers)) + eventsSize (eventsOf (history r)) + 4 + length (joined (namesOf (eventsOf (history r))))
+pub length-of-blob : (r : Run) → Finishes r → length (blob r) ≡ structureStart (count (r .numbers)) + eventsSize (eventsIn r) + 4 + length (joined (namesOf (eventsIn r)))
 length-of-blob = run-length
 
 -- Reading the shown blob returns the description.
@@ -70,18 +125,43 @@ reading-of-any = read-blob
 pub demand-3 : (r q : Run) → Finishes r → Finishes q → (blob r ≡ blob q) ↔ (description r ≡ description q)
 demand-3 = same-runs
 
--- The description depends only on the opening's numbers and the accepted calls: refused calls, the sizes of the buffers and what
--- they held before make no difference.
+-- The description depends only on the reservations, the boot number and the events that the accepted calls add: the sizes of the
+-- buffers and what they held before make no difference.
+pub told-alone : (r q : Run) → reservationsOf (r .numbers) ≡ reservationsOf (q .numbers) → bootIn r ≡ bootIn q → eventsIn r ≡ eventsIn q → description r ≡ description q
+told-alone = same-told
+
+-- So it depends only on the opening's numbers and the accepted calls.
 pub accepted-calls-alone : (r q : Run) → r .numbers ≡ q .numbers → history r ≡ history q → description r ≡ description q
 accepted-calls-alone = same-history
 
--- Neither does the kind of property call, if it writes the same bytes.
+-- The kind of property call makes no difference, if it writes the same bytes.
 pub kind-makes-no-difference : (name : List ℕ) (v u : Value) → valueBytes v ≡ valueBytes u → tells (to-have name v) ≡ tells (to-have name u)
 kind-makes-no-difference = same-kinds
 
--- Document 01's starred cases, in one table.
+-- Numbers are written big-endian, one after the other, and a string with its 0.
+pub kinds-by-bytes : (name : List ℕ) →
+    ((numbers : List ℕ) → tells (asks (property-array-u32 name numbers)) ≡ tells (asks (property name (cellBytes 4 numbers))))
+    × ((numbers : List ℕ) → tells (asks (property-array-u64 name numbers)) ≡ tells (asks (property name (cellBytes 8 numbers))))
+    × ((string : List ℕ) → tells (asks (property-string name string)) ≡ tells (asks (property name (entry string))))
+kinds-by-bytes = kinds-as-bytes
+
+-- A phandle given by its own call adds the same event as a u32 property `phandle` with that value.
+pub phandle-as-u32 : (value : ℕ) → tells (asks (property-phandle value)) ≡ tells (asks (property-u32 phandleName value))
+phandle-as-u32 = same-phandle
+
+-- One more call makes no difference, if it shows the blob, or if it is refused and records no phandle.
+pub idle-call : (r q : Run) → OneMore r q → description q ≡ description r
+idle-call = one-more
+
+-- ---- document 01's cases
+
+-- Its starred cases, in one table.
 pub starred-cases : allHold starred ≡ true
 starred-cases = starred-hold
+
+-- Its empty run and its run with one node, over buffers with earlier contents: both finish and show its words.
+pub empty-and-node : Finishes empty-run × (blob empty-run ≡ cellBytes 4 emptyWords) × Finishes node-run × (blob node-run ≡ cellBytes 4 nodeWords)
+empty-and-node = examples-shown
 
 -- Blobs that our writer does not make, in one table: each is read or refused as document 01 says.
 pub foreign-blobs : AllRead foreign
