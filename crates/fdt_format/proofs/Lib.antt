@@ -1,4 +1,5 @@
 pub mod Example
+pub mod Foreign
 pub mod HeaderRead
 pub mod Named
 pub mod Nested

@@ -1,6 +1,7 @@
 pub mod Blob
 pub mod Description
 pub mod Events
+pub mod Foreign
 pub mod Reading
 pub mod Refusals
 pub mod Step

@@ -12,8 +12,10 @@ use Rattle.fdt_strings.specs.Entries.{entry, joined}
 use Rattle.fdt_values.specs.Value.{Value, valueBytes}
 use Rattle.fdt_format.specs.Blob.{namesOf, eventsSize, blobOf, WellFormed}
 use Rattle.fdt_format.specs.Description.{Description}
+use Rattle.fdt_format.specs.Foreign.{AllRead, foreign}
 use Rattle.fdt_header.specs.Header.{structureStart}
 use Rattle.fdt_format.specs.Reading.{reading}
+use Rattle.fdt_format.proofs.Foreign.{foreign-read}
 use Rattle.fdt_format.proofs.ReadBack.{read-blob}
 use Rattle.fdt_format.proofs.Strings.{Distinct, names-once}
 use Rattle.fdt_record.specs.declared.Answer.{Answer}
@@ -31,13 +33,11 @@ use Rattle.fdt_calls.proofs.Table.{Neither34, first-row, answers-exactly, never
 use Rattle.fdt_promises.specs.Effects.{own, ownEntry, Changed, Alike}
 use Rattle.fdt_promises.specs.Run.{tells, reservationsOf, Holds, Fits, Misgiven, Run, desk, history, eventsIn, bootIn, marksIn, description, Finishes, blob, OneMore}
 use Rattle.fdt_promises.specs.Examples.{emptyWords, nodeWords}
-use Rattle.fdt_promises.specs.Foreign.{AllRead, foreign}
 use Rattle.fdt_promises.specs.Starred.{allHold, starred}
 use Rattle.fdt_promises.proofs.OwnBytes.{recorded-own, only-own}
 use Rattle.fdt_promises.proofs.PastUsable.{past-usable, shown-usable}
 use Rattle.fdt_promises.proofs.Described.{run-holds, run-fits, run-given, run-shown, run-length, run-read, same-runs, same-history}
 use Rattle.fdt_promises.proofs.Examples.{empty-run, node-run, examples-shown}
-use Rattle.fdt_promises.proofs.Foreign.{foreign-read}
 use Rattle.fdt_promises.proofs.Idle.{same-told, same-kinds, kinds-as-bytes, same-phandle, one-more}
 use Rattle.fdt_promises.proofs.Starred.{starred-hold}
 

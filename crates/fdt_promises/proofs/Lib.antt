@@ -4,7 +4,6 @@ pub mod Desks
 pub mod Ended
 pub mod Examples
 pub mod Fitting
-pub mod Foreign
 pub mod Growth
 pub mod Held
 pub mod Idle

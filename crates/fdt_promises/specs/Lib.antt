@@ -1,5 +1,4 @@
 pub mod Effects
 pub mod Examples
-pub mod Foreign
 pub mod Run
 pub mod Starred
