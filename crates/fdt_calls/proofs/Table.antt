@@ -11,7 +11,7 @@ use Rattle.fdt_record.specs.declared.Outcome.{Outcome}
 use Rattle.fdt_record.specs.Answers.{numberOf, accepts}
 use Rattle.fdt_record.specs.Rows.{Row, _⇒_, first}
 use Rattle.fdt_record.specs.Tests.{aloneRows, blobRows, stringsRows}
-use Rattle.fdt_record.proofs.Rows.{Refusals, Exactly, exactly, Every, first-every, first-append}
+use Rattle.fdt_record.proofs.Rows.{all, first-all, Refusals, Exactly, exactly, first-append}
 use Rattle.fdt_opening.specs.Opening.{openingRows, openingAnswer}
 use Rattle.fdt_nodes.specs.Begin.{beginRows, beginAnswer}
 use Rattle.fdt_nodes.specs.End.{endRows, endAnswer}
@@ -28,43 +28,21 @@ neither a = not (eqb (numberOf a) 3 || eqb (numberOf a) 4)
 abbrev pub Neither34 : Answer → Type 0
 Neither34 a = neither a ≡ true
 
--- every answer of the rows is a refusal, and none has number 3 or 4
-unfoldable refusing : List Row → Bool
-refusing [] = true
-refusing ((b ⇒ a) ∷ rest) = not (accepts a) && (neither a && refusing rest)
-
-both : (a b : Bool) → (a && b) ≡ true → (a ≡ true) × (b ≡ true)
-both true b e = (refl, e)
-both false b e = absurd (true≢false (sym e))
-
-refusals-of : (l : List Row) → refusing l ≡ true → Refusals l
-unfolding refusing Refusals
-refusals-of [] e = tt
-refusals-of ((b ⇒ a) ∷ rest) e =
-    let p = both (not (accepts a)) (neither a && refusing rest) e in
-    (not-true (accepts a) (p .0), refusals-of rest (both (neither a) (refusing rest) (p .1) .1))
-
-neither-of : (l : List Row) → refusing l ≡ true → Every Neither34 l
-unfolding refusing Every
-neither-of [] e = tt
-neither-of ((b ⇒ a) ∷ rest) e =
-    let p = both (neither a) (refusing rest) (both (not (accepts a)) (neither a && refusing rest) e .1) in
-    (p .0, neither-of rest (p .1))
-
-all-refuse : (c : Request) (s : Desk) → refusing (rows c s) ≡ true
-unfolding rows refusing accepts aloneRows blobRows stringsRows openingRows beginRows endRows stateRows nameRows roomRows propertyRows recordRows finishRows
-all-refuse (to-open numbers) s = refl
-all-refuse (to-boot n) s = refl
-all-refuse (to-begin name) s = refl
-all-refuse (to-end handle) s = refl
-all-refuse (to-have name v) s = refl
-all-refuse (to-mark value) s = refl
-all-refuse to-finish s = refl
-all-refuse to-show s = refl
+-- every answer of a call's rows is a refusal, and none has number 3 or 4
+each : (c : Request) (s : Desk) → Refusals (rows c s) × (all neither (rows c s) ≡ true)
+unfolding rows all Refusals accepts aloneRows blobRows stringsRows openingRows beginRows endRows stateRows nameRows roomRows propertyRows recordRows finishRows
+each (to-open numbers) s = (refl, refl)
+each (to-boot n) s = (refl, refl)
+each (to-begin name) s = (refl, refl)
+each (to-end handle) s = (refl, refl)
+each (to-have name v) s = (refl, refl)
+each (to-mark value) s = (refl, refl)
+each to-finish s = (refl, refl)
+each to-show s = (refl, refl)
 
 -- a phandle's own rows
-record-refuse : (value : ℕ) (s : Desk) → refusing (recordRows (s .writer) (length (s .blob)) (s .strings) (s .phandles) value) ≡ true
-unfolding refusing accepts aloneRows blobRows stringsRows recordRows
+record-refuse : (value : ℕ) (s : Desk) → Refusals (recordRows (s .writer) (length (s .blob)) (s .strings) (s .phandles) value)
+unfolding all Refusals accepts aloneRows blobRows stringsRows recordRows
 record-refuse value s = refl
 
 answer-upon : (b : Bool) (x y : Outcome) → cond b x y .answer ≡ cond b (x .answer) (y .answer)
@@ -80,12 +58,12 @@ first-row (to-end handle) s = refl
 first-row (to-have name v) s = refl
 first-row (to-mark value) s =
     answer-upon (accepts (markAnswer value s)) _ _
-    ∙ sym (first-append (recordRows (s .writer) (length (s .blob)) (s .strings) (s .phandles) value) (propertyRows (recorded (s .writer)) (s .blob) (s .strings) phandleName (phandleValue value)) (refusals-of _ (record-refuse value s)))
+    ∙ sym (first-append (recordRows (s .writer) (length (s .blob)) (s .strings) (s .phandles) value) (propertyRows (recorded (s .writer)) (s .blob) (s .strings) phandleName (phandleValue value)) (record-refuse value s))
 first-row to-finish s = refl
 first-row to-show s = refl
 
 pub answers-exactly : (c : Request) (s : Desk) → Exactly (rows c s) (answer c s)
-answers-exactly c s = subst (Exactly (rows c s)) (sym (first-row c s)) (exactly (rows c s) (refusals-of (rows c s) (all-refuse c s)))
+answers-exactly c s = subst (Exactly (rows c s)) (sym (first-row c s)) (exactly (rows c s) (each c s .0))
 
 pub never-given : (c : Request) (s : Desk) → Neither34 (answer c s)
-never-given c s = subst Neither34 (sym (first-row c s)) (first-every Neither34 (rows c s) refl (neither-of (rows c s) (all-refuse c s)))
+never-given c s = subst Neither34 (sym (first-row c s)) (first-all neither (rows c s) refl (each c s .1))

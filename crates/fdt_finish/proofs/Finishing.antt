@@ -23,8 +23,8 @@ use Rattle.fdt_record.specs.Answers.{accepts, upon}
 use Rattle.fdt_record.specs.Limits.{blobCeiling}
 use Rattle.fdt_record.specs.Tests.{aloneRows, blobRows, stringsRows}
 use Rattle.fdt_record.proofs.Answers.{accepts-done, upon-done, upon-refused}
-use Rattle.fdt_record.proofs.Fits.{fit-blob, fit-strings, not-overfull}
-use Rattle.fdt_record.proofs.Rows.{NoneHolds, Refusals, Exactly, exactly}
+use Rattle.fdt_record.proofs.Fits.{FitBlob, fit-blob, FitStrings, fit-strings, not-overfull}
+use Rattle.fdt_record.proofs.Rows.{all, Refusals, ByName, by-name, Exactly, exactly}
 use Rattle.fdt_finish.specs.Finish.{usedStrings, finishRows, finishAnswer, finishedRecord, finishedBlob, finishBlob}
 
 -- word 9 and then the strings, into the rest of the blob
@@ -43,8 +43,8 @@ word-more {words} {before} {now} {after} {i} room w h e =
 
 module _ (w : Record) (lent : ℕ) (strings : List ℕ) where
   pub finish-refusals : Refusals (finishRows w lent strings)
-  unfolding Refusals finishRows stringsRows blobRows aloneRows accepts
-  finish-refusals = (refl, (refl, (refl, (refl, (refl, (refl, tt))))))
+  unfolding finishRows stringsRows blobRows aloneRows all Refusals accepts
+  finish-refusals = refl
 
   pub finish-exactly : Exactly (finishRows w lent strings) (finishAnswer w lent strings)
   unfolding finishAnswer
@@ -53,6 +53,8 @@ module _ (w : Record) (lent : ℕ) (strings : List ℕ) where
 -- what an accepted finish may rely on
 pub record Finishable (w : Record) (lent : ℕ) (strings : List ℕ) : Type 0 where
   pub unmarked : w .finished ≡ false
+  pub blob : FitBlob w lent
+  pub names : FitStrings w strings
   pub depth : w .«node_depth» ≡ 0
   pub started : structureStart (w .reservations) ≤ w .«blob_used»
   pub room : w .«blob_used» + (4 + w .«strings_used») ≤ w .«blob_room»
@@ -61,21 +63,23 @@ pub record Finishable (w : Record) (lent : ℕ) (strings : List ℕ) : Type 0 wh
   pub stored : w .«strings_used» ≤ length strings
 
 pub finish-fits : (w : Record) (lent : ℕ) (strings : List ℕ) → finishAnswer w lent strings ≡ Done → Finishable w lent strings
-unfolding finishRows stringsRows blobRows aloneRows NoneHolds finishedRecord
+unfolding finishRows stringsRows blobRows aloneRows ByName finishedRecord
 finish-fits w lent strings e =
-    let n = finish-exactly w lent strings .accepted .0 e in
-    let m = n .1 .1 in
-    let b = fit-blob w lent (m .0) in
-    let s = fit-strings w strings (m .1 .0) in
-    record {
-      unmarked = n .0;
-      depth = eqb-true (w .«node_depth») 0 (not-false (eqb (w .«node_depth») 0) (m .1 .1 .0));
-      started = b .started;
-      room = not-overfull (finishedRecord w) (m .1 .1 .1 .0);
-      small = b .small;
-      within = b .within;
-      stored = omega (arith, s .used, s .within);
-    }
+    by-name (finishRows w lent strings) (finish-exactly w lent strings .accepted .0 e)
+    (λ unfinished figures blob stored unclosed over.
+        let b = fit-blob w lent blob in
+        let s = fit-strings w strings stored in
+        record {
+          unmarked = unfinished;
+          blob = b;
+          names = s;
+          depth = eqb-true (w .«node_depth») 0 (not-false (eqb (w .«node_depth») 0) unclosed);
+          started = b .started;
+          room = not-overfull (finishedRecord w) over;
+          small = b .small;
+          within = b .within;
+          stored = omega (arith, s .used, s .within);
+        })
 
 module _ (w : Record) (blob strings : List ℕ) where
   -- what goes into the rest and then the header

@@ -23,7 +23,7 @@ use Rattle.fdt_record.specs.Answers.{accepts, upon}
 use Rattle.fdt_record.specs.Limits.{mostDepth}
 use Rattle.fdt_record.specs.Tests.{aloneRows, blobRows}
 use Rattle.fdt_record.proofs.Fits.{FitBlob, fit-blob, not-overfull}
-use Rattle.fdt_record.proofs.Rows.{NoneHolds, Refusals, Exactly, exactly}
+use Rattle.fdt_record.proofs.Rows.{all, Refusals, ByName, by-name, Exactly, exactly}
 use Rattle.fdt_nodes.specs.declared.Begun.{Begun}
 use Rattle.fdt_nodes.specs.Begin.{beginRows, beginAnswer, begunRecord, begin}
 
@@ -52,8 +52,8 @@ put-begin name rest r₁ r₂ r₃ e₁ e₂ e₃ room =
 
 -- every answer of the rows is a refusal
 refusals : (w : Record) (lent : ℕ) (name : List ℕ) → Refusals (beginRows w lent name)
-unfolding beginRows blobRows aloneRows Refusals accepts
-refusals w lent name = (refl, (refl, (refl, (refl, (refl, (refl, (refl, tt)))))))
+unfolding beginRows blobRows aloneRows all Refusals accepts
+refusals w lent name = refl
 
 module _ (w : Record) (lent : ℕ) (name : List ℕ) where
   pub begin-exactly : Exactly (beginRows w lent name) (beginAnswer w lent name)
@@ -68,15 +68,16 @@ module _ (w : Record) (lent : ℕ) (name : List ℕ) where
     pub room : w .«blob_used» + length (beginBytes name) ≤ w .«blob_room»
 
   pub begin-fits : beginAnswer w lent name ≡ Done → BeginFits
-  unfolding beginRows blobRows aloneRows NoneHolds begunRecord
+  unfolding beginRows blobRows aloneRows ByName begunRecord
   begin-fits e =
-      let n = begin-exactly .accepted .0 e in
-      record {
-        blob = fit-blob w lent (n .1 .1 .0);
-        depth = leb-false mostDepth (w .«node_depth») (n .1 .1 .1 .0);
-        plain = n .1 .1 .1 .1 .0;
-        room = not-overfull (begunRecord w name) (n .1 .1 .1 .1 .1 .1 .0);
-      }
+      by-name (beginRows w lent name) (begin-exactly .accepted .0 e)
+      (λ unfinished figures blob deep zero wrong over.
+          record {
+            blob = fit-blob w lent blob;
+            depth = leb-false mostDepth (w .«node_depth») deep;
+            plain = zero;
+            room = not-overfull (begunRecord w name) over;
+          })
 
 -- What a begin gives, by its answer.
 module _ (w : Record) (blob name : List ℕ) (a : Answer) (told : a ≡ beginAnswer w (length blob) name) where

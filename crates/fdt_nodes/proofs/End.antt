@@ -12,13 +12,13 @@ use Rattle.fdt_record.specs.Answers.{accepts}
 use Rattle.fdt_record.specs.Fields.{withUsedBlob, withDepth, withEnded}
 use Rattle.fdt_record.specs.Tests.{aloneRows, blobRows}
 use Rattle.fdt_record.proofs.Fits.{neither, FitBlob, fit-blob, not-overfull}
-use Rattle.fdt_record.proofs.Rows.{NoneHolds, Refusals, Exactly, exactly}
+use Rattle.fdt_record.proofs.Rows.{all, Refusals, ByName, by-name, Exactly, exactly}
 use Rattle.fdt_nodes.specs.End.{endRows, endAnswer, endedRecord}
 
 -- every answer of the rows is a refusal
 refusals : (w : Record) (lent handle : ℕ) → Refusals (endRows w lent handle)
-unfolding endRows blobRows aloneRows Refusals accepts
-refusals w lent handle = (refl, (refl, (refl, (refl, (refl, tt)))))
+unfolding endRows blobRows aloneRows all Refusals accepts
+refusals w lent handle = refl
 
 module _ (w : Record) (lent handle : ℕ) where
   pub end-exactly : Exactly (endRows w lent handle) (endAnswer w lent handle)
@@ -32,15 +32,16 @@ module _ (w : Record) (lent handle : ℕ) where
     pub room : w .«blob_used» + 4 ≤ w .«blob_room»
 
   pub end-fits : endAnswer w lent handle ≡ Done → EndFits
-  unfolding endRows blobRows aloneRows NoneHolds endedRecord
+  unfolding endRows blobRows aloneRows ByName endedRecord
   end-fits e =
-      let n = end-exactly .accepted .0 e in
-      let z = eqb-false (w .«node_depth») 0 (neither (not (eqb handle (w .«node_depth»))) (eqb (w .«node_depth») 0) (n .1 .1 .1 .0) .1) in
-      record {
-        blob = fit-blob w lent (n .1 .1 .0);
-        depth = omega arith;
-        room = omega (arith, not-overfull (endedRecord w) (n .1 .1 .1 .1 .0), length-end);
-      }
+      by-name (endRows w lent handle) (end-exactly .accepted .0 e)
+      (λ unfinished figures blob other over.
+          let z = eqb-false (w .«node_depth») 0 (neither (not (eqb handle (w .«node_depth»))) (eqb (w .«node_depth») 0) other .1) in
+          record {
+            blob = fit-blob w lent blob;
+            depth = omega arith;
+            room = omega (arith, not-overfull (endedRecord w) over, length-end);
+          })
 
 -- the record after an accepted end, with its 4 bytes used
 pub ended-record : (w : Record) → withEnded true (withDepth (w .«node_depth» - 1) (withUsedBlob (w .«blob_used» + 4) w)) ≡ endedRecord w

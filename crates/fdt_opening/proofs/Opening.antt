@@ -24,7 +24,7 @@ use Rattle.fdt_record.specs.Answers.{accepts}
 use Rattle.fdt_record.specs.Limits.{blobCeiling, mostReservations, usable}
 use Rattle.fdt_record.proofs.Answers.{upon-done, upon-refused, accepts-done}
 use Rattle.fdt_record.proofs.Fits.{usable-within, not-overfull}
-use Rattle.fdt_record.proofs.Rows.{NoneHolds, Refusals, Exactly, exactly}
+use Rattle.fdt_record.proofs.Rows.{all, Refusals, ByName, by-name, Exactly, exactly}
 use Rattle.fdt_opening.specs.Opening.{count, someInvalid, openingRows, openingAnswer, openedRecord, closedRecord, openingBytes, opening, openingBlob, OpeningOutcome}
 
 module _ (numbers : List ℕ) where
@@ -46,8 +46,8 @@ module _ (numbers : List ℕ) where
 module _ (blob strings phandles : ℕ) (numbers : List ℕ) where
   -- every answer of the tests is a refusal
   pub opening-refusals : Refusals (openingRows blob strings phandles numbers)
-  unfolding openingRows Refusals accepts
-  opening-refusals = (refl, (refl, (refl, (refl, (refl, tt)))))
+  unfolding openingRows all Refusals accepts
+  opening-refusals = refl
 
   pub opening-exactly : Exactly (openingRows blob strings phandles numbers) (openingAnswer blob strings phandles numbers)
   unfolding openingAnswer
@@ -63,19 +63,20 @@ pub record OpeningFits (lent : ℕ) (numbers : List ℕ) : Type 0 where
   pub room : 56 + 8 * length numbers ≤ lent
 
 pub opened-fits : (lent strings phandles : ℕ) (numbers : List ℕ) → openingAnswer lent strings phandles numbers ≡ Done → OpeningFits lent numbers
-unfolding openingRows NoneHolds openedRecord
+unfolding openingRows ByName openedRecord
 opened-fits lent strings phandles numbers e =
-    let n = opening-exactly lent strings phandles numbers .accepted .0 e in
-    let even : length numbers % 2 ≡ 0 = eqb-true (length numbers % 2) 0 (not-false _ (n .0)) in
-    let room : structureStart (count numbers) ≤ usable blobCeiling lent = not-overfull (openedRecord lent strings phandles numbers) (n .1 .1 .1 .1 .0) in
-    record {
-      even = even;
-      few = ltb-false mostReservations (count numbers) (n .1 .0);
-      valid = n .1 .1 .0;
-      apart = λ o. true≢false (sym (overlapping-exact numbers .1 o) ∙ n .1 .1 .1 .0);
-      started = room;
-      room = omega (arith, usable-within blobCeiling lent .0);
-    }
+    by-name (openingRows lent strings phandles numbers) (opening-exactly lent strings phandles numbers .accepted .0 e)
+    (λ odd many invalid overlap over.
+        let even : length numbers % 2 ≡ 0 = eqb-true (length numbers % 2) 0 (not-false _ odd) in
+        let started : structureStart (count numbers) ≤ usable blobCeiling lent = not-overfull (openedRecord lent strings phandles numbers) over in
+        record {
+          even = even;
+          few = ltb-false mostReservations (count numbers) many;
+          valid = invalid;
+          apart = λ o. true≢false (sym (overlapping-exact numbers .1 o) ∙ overlap);
+          started = started;
+          room = omega (arith, usable-within blobCeiling lent .0);
+        })
 
 module _ (blob : List ℕ) (strings phandles : ℕ) (numbers : List ℕ) where
   -- what an accepted opening writes

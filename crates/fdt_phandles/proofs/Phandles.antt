@@ -19,7 +19,7 @@ use Rattle.fdt_record.specs.Answers.{accepts, upon}
 use Rattle.fdt_record.specs.Tests.{aloneRows, blobRows, stringsRows}
 use Rattle.fdt_record.proofs.Answers.{upon-done, left-refused}
 use Rattle.fdt_record.proofs.Fits.{FitPhandles, fit-phandles}
-use Rattle.fdt_record.proofs.Rows.{NoneHolds, Refusals, Exactly, exactly}
+use Rattle.fdt_record.proofs.Rows.{all, Refusals, ByName, by-name, Exactly, exactly}
 use Rattle.fdt_phandles.specs.Phandle.{recordRows, recordAnswer, phandleTable}
 
 -- the entry that a search at i tests, and the entries after it
@@ -39,8 +39,8 @@ or-past a b e = simp e
 
 -- every answer of the rows is a refusal
 refusals : (w : Record) (lent : ℕ) (strings table : List ℕ) (value : ℕ) → Refusals (recordRows w lent strings table value)
-unfolding recordRows stringsRows blobRows aloneRows Refusals accepts
-refusals w lent strings table value = (refl, (refl, (refl, (refl, (refl, (refl, (refl, tt)))))))
+unfolding recordRows stringsRows blobRows aloneRows all Refusals accepts
+refusals w lent strings table value = refl
 
 -- what holds if a value may be recorded, in a table of this length
 pub record RecordFits (w : Record) (entries : ℕ) : Type 0 where
@@ -58,13 +58,11 @@ module _ (w : Record) (lent : ℕ) (strings table : List ℕ) (value : ℕ) wher
   record-exactly = exactly (recordRows w lent strings table value) (refusals w lent strings table value)
 
   pub record-fits : recordAnswer w lent strings table value ≡ Done → RecordFits w (length table)
-  unfolding recordRows stringsRows blobRows aloneRows NoneHolds
+  unfolding recordRows stringsRows blobRows aloneRows ByName
   record-fits e =
-      let n = record-exactly .accepted .0 e .1 .1 .1 .1 in
-      record {
-        phandles = fit-phandles w (length table) (n .0);
-        room = leb-false (w .«phandles_room») (w .«phandles_used») (n .1 .1 .0);
-      }
+      by-name (recordRows w lent strings table value) (record-exactly .accepted .0 e)
+      (λ unfinished figures blob stored misfit known full.
+          record { phandles = fit-phandles w (length table) misfit; room = leb-false (w .«phandles_room») (w .«phandles_used») full })
 
   -- a value that was recorded is at the count
   pub table-at-count : recordAnswer w lent strings table value ≡ Done → getD (phandleTable w lent strings table value) (w .«phandles_used») 0 ≡ value

@@ -29,7 +29,7 @@ use Rattle.fdt_record.specs.Tests.{aloneRows, blobRows, stringsRows}
 use Rattle.fdt_record.proofs.Answers.{accepts-done, upon-same}
 use Rattle.fdt_record.proofs.FirstTests.{strings-refusals}
 use Rattle.fdt_record.proofs.Fits.{fit-blob, FitStrings, fit-strings, fit-phandles}
-use Rattle.fdt_record.proofs.Rows.{NoneHolds, Refusals, exactly, refusals-more, append-same}
+use Rattle.fdt_record.proofs.Rows.{Refusals, ByName, by-name, exactly, refusals-more, append-same}
 use Rattle.fdt_properties.specs.Property.{placeOf, placeOffset, stored, written, stateRows, nameRows, roomRows, propertyRows, propertyAnswer, propertyRecord, property, propertyBlob, propertyStrings}
 use Rattle.fdt_properties.proofs.Property.{first-refusals, PropertyFits, property-fits}
 use Rattle.fdt_properties.proofs.Steps.{first-fits}
@@ -47,7 +47,7 @@ use Rattle.fdt_nodes.proofs.End.{end-fits}
 use Rattle.fdt_phandles.specs.Phandle.{phandleName, phandleValue, recordRows, recordAnswer, recorded, phandle, phandleBlob, phandleStrings, phandleTable}
 use Rattle.fdt_phandles.proofs.Phandles.{record-fits}
 use Rattle.fdt_finish.specs.Finish.{usedStrings, finishRows, finishAnswer, finishedBlob, finish, finishBlob}
-use Rattle.fdt_finish.proofs.Finishing.{finish-exactly, finish-fits}
+use Rattle.fdt_finish.proofs.Finishing.{finish-fits}
 use Rattle.fdt_finish.specs.Boot.{boot}
 use Rattle.fdt_finish.specs.Shown.{showable, shown}
 use Rattle.fdt_calls.specs.Calls.{Request, to-open, to-boot, to-begin, to-end, to-have, to-mark, to-finish, to-show, Desk, answer, after}
@@ -128,26 +128,24 @@ module _ (xs ys : List ℕ) (same : SameUsable blobCeiling xs ys) where
     same-used w f = same-front stringsCeiling (w .«strings_used») ss ts alike (omega (arith, f .room, f .used))
 
     usable-finish : (w : Record) → (finish w (length xs) ss ≡ finish w (length ys) ts) × SameUsable blobCeiling (finishBlob w xs ss) (finishBlob w ys ts)
-    unfolding finish finishBlob finishedBlob usedStrings finishRows stringsRows blobRows aloneRows NoneHolds
+    unfolding finish finishBlob finishedBlob usedStrings finishRows stringsRows blobRows aloneRows
     usable-finish w = (
       simp (same-finish w),
       same-upon blobCeiling (same-finish w) xs ys _ _ same
           (λ e.
           let done = accepts-done (finishAnswer w (length xs) ss) e in
           let f = finish-fits w (length xs) ss done in
-          let n = finish-exactly w (length xs) ss .accepted .0 done .1 .1 in
-          let fb = fit-blob w (length xs) (n .0) in
           let used = w .«blob_used» in
           let final = finalBytes (take (w .«strings_used») ss) in
           let l : length final ≡ 4 + w .«strings_used» = length-final (take (w .«strings_used») ss) ∙ ap (λ (k : ℕ). 4 + k) (length-take-le (w .«strings_used») ss (f .stored)) in
           let middle : SameUsable blobCeiling (splice used final xs) (splice used (finalBytes (take (w .«strings_used») ts)) ys) =
-          subst (λ (s : List ℕ). SameUsable blobCeiling (splice used final xs) (splice used (finalBytes s) ys)) (same-used w (fit-strings w ss (n .1 .0)))
-          (same-splice blobCeiling used final xs ys same (omega (arith, l, fb .room, f .room)))
+          subst (λ (s : List ℕ). SameUsable blobCeiling (splice used final xs) (splice used (finalBytes s) ys)) (same-used w (f .names))
+          (same-splice blobCeiling used final xs ys same (omega (arith, l, f .blob .room, f .room)))
           in
           let k : usable blobCeiling (length (splice used final xs)) ≡ usable blobCeiling (length xs) = ap (usable blobCeiling) (length-splice used final xs (omega (arith, l, f .room, f .within))) in
           let h : length (headerBytes (w .reservations) (used + 4) (w .«strings_used») (w .«boot_cpuid_phys»)) ≡ headerSize = length-header (w .reservations) (used + 4) (w .«strings_used») (w .«boot_cpuid_phys») in
           same-splice blobCeiling 0 (headerBytes (w .reservations) (used + 4) (w .«strings_used») (w .«boot_cpuid_phys»)) (splice used final xs) (splice used (finalBytes (take (w .«strings_used») ts)) ys) middle
-          (omega (arith, k, h, fb .room, f .started, f .room))),
+          (omega (arith, k, h, f .blob .room, f .started, f .room))),
     )
 
     module _ (w : Record) (name : List ℕ) (v : Value) where
@@ -234,9 +232,10 @@ module _ (xs ys : List ℕ) (same : SameUsable blobCeiling xs ys) where
       same-first = simp (same-misfit-blob w xs ys same, same-misfit-strings w ss ts alike, same-phandles)
 
       phandles-fit : accepts (first (first-tests (length xs) ss ps)) ≡ true → misfitPhandles w (length ps) ≡ false
-      unfolding first-tests stringsRows blobRows aloneRows NoneHolds
+      unfolding first-tests stringsRows blobRows aloneRows ByName
       phandles-fit e =
-          let rows = first-tests (length xs) ss ps in exactly rows (refusals (length xs) ss ps) .accepted .0 (accepts-done (first rows) e) .1 .1 .1 .1 .0
+          let rows = first-tests (length xs) ss ps in
+          by-name rows (exactly rows (refusals (length xs) ss ps) .accepted .0 (accepts-done (first rows) e)) (λ unfinished figures blob stored misfit. misfit)
 
       -- the tests of the table
       table-tests : List ℕ → List Row

@@ -13,17 +13,17 @@ use Rattle.fdt_record.specs.declared.Record.{Record}
 use Rattle.fdt_record.specs.Answers.{accepts}
 use Rattle.fdt_record.specs.Tests.{aloneRows, blobRows, stringsRows}
 use Rattle.fdt_record.proofs.Fits.{FitRecord, fit-record, FitBlob, fit-blob, FitStrings, fit-strings, not-overfull}
-use Rattle.fdt_record.proofs.Rows.{NoneHolds, Refusals, Exactly, exactly}
+use Rattle.fdt_record.proofs.Rows.{all, Refusals, ByName, by-name, Exactly, exactly}
 use Rattle.fdt_properties.specs.Property.{placeOf, isFull, written, propertyRecord, stateRows, nameRows, roomRows, propertyRows, propertyAnswer}
 
 -- every answer of the rows is a refusal
 pub first-refusals : (w : Record) (lent : ℕ) (strings name : List ℕ) (misfit zero : Bool) → Refusals (stateRows w lent strings misfit zero ++ nameRows name)
-unfolding stateRows stringsRows blobRows aloneRows nameRows Refusals accepts
-first-refusals w lent strings name misfit zero = (refl, (refl, (refl, (refl, (refl, (refl, (refl, (refl, (refl, (refl, tt))))))))))
+unfolding stateRows stringsRows blobRows aloneRows nameRows all Refusals accepts
+first-refusals w lent strings name misfit zero = refl
 
 refusals : (w : Record) (blob strings name : List ℕ) (v : Value) → Refusals (propertyRows w blob strings name v)
-unfolding propertyRows stateRows stringsRows blobRows aloneRows nameRows roomRows Refusals accepts
-refusals w blob strings name v = (refl, (refl, (refl, (refl, (refl, (refl, (refl, (refl, (refl, (refl, (refl, (refl, tt))))))))))))
+unfolding propertyRows stateRows stringsRows blobRows aloneRows nameRows roomRows all Refusals accepts
+refusals w blob strings name v = refl
 
 module _ (w : Record) (blob strings name : List ℕ) (v : Value) where
   pub property-exactly : Exactly (propertyRows w blob strings name v) (propertyAnswer w blob strings name v)
@@ -43,19 +43,19 @@ module _ (w : Record) (blob strings name : List ℕ) (v : Value) where
     pub room : w .«blob_used» + length (written w strings name v) ≤ w .«blob_room»
 
   pub property-fits : propertyAnswer w blob strings name v ≡ Done → PropertyFits
-  unfolding propertyRows stateRows stringsRows blobRows aloneRows nameRows roomRows propertyRecord NoneHolds
+  unfolding propertyRows stateRows stringsRows blobRows aloneRows nameRows roomRows propertyRecord ByName
   property-fits e =
-      let n = property-exactly .accepted .0 e .1 in
-      let m = n .1 .1 .1 in
-      let named = m .1 .1 .1 .1 in
-      record {
-        figures = fit-record w (n .0);
-        blob-fits = fit-blob w (length blob) (n .1 .0);
-        names = fit-strings w strings (n .1 .1 .0);
-        value = m .0;
-        unended = m .1 .1 .0;
-        inside = let d = eqb-false (w .«node_depth») 0 (m .1 .1 .1 .0) in omega arith;
-        plain = named .0;
-        placed = named .1 .1 .0;
-        room = not-overfull (propertyRecord w strings name v) (named .1 .1 .1 .0);
-      }
+      by-name (propertyRows w blob strings name v) (property-exactly .accepted .0 e)
+      (λ unfinished figures lent stored misfit text ended outside zero wrong full over.
+          let d = eqb-false (w .«node_depth») 0 outside in
+          record {
+            figures = fit-record w figures;
+            blob-fits = fit-blob w (length blob) lent;
+            names = fit-strings w strings stored;
+            value = misfit;
+            unended = ended;
+            inside = omega arith;
+            plain = zero;
+            placed = full;
+            room = not-overfull (propertyRecord w strings name v) over;
+          })

@@ -19,7 +19,7 @@ use Rattle.fdt_record.specs.Rows.{Row, _⇒_, first}
 use Rattle.fdt_record.specs.Tests.{aloneRows, blobRows, stringsRows}
 use Rattle.fdt_record.proofs.Answers.{accepts-done}
 use Rattle.fdt_record.proofs.Fits.{FitBlob, fit-blob, FitStrings, fit-strings, not-overfull}
-use Rattle.fdt_record.proofs.Rows.{NoneHolds, Refusals, exactly, stands, goes-on}
+use Rattle.fdt_record.proofs.Rows.{all, Refusals, ByName, by-name, exactly, stands, goes-on}
 use Rattle.fdt_properties.specs.declared.Measured.{Measured}
 use Rattle.fdt_properties.specs.declared.Place.{Place}
 use Rattle.fdt_properties.specs.Placeholder.{PlaceIs, Measures, NameFits, FrameFits, Passed, Tests}
@@ -45,14 +45,12 @@ module _ (w : Record) (blob strings name : List ℕ) (m : Measured) {a : Answer}
       ∙ ap (λ (x : Bool). first (stateRows w (length blob) strings (misfitValue v) x ++ nameRows name)) (k .zero-is)
 
   pub first-fits : accepts a ≡ true → FirstFits w blob strings (m .misfit)
-  unfolding stateRows stringsRows blobRows aloneRows NoneHolds
+  unfolding stateRows stringsRows blobRows aloneRows nameRows ByName
   first-fits r =
-      let n = exactly _ (first-refusals w (length blob) strings name (m .misfit) (m .zero)) .accepted .0 (sym told ∙ accepts-done a r) .1 in
-      record {
-        blob-fits = fit-blob w (length blob) (n .1 .0);
-        names = fit-strings w strings (n .1 .1 .0);
-        in-order = n .1 .1 .1 .0;
-      }
+      by-name (stateRows w (length blob) strings (m .misfit) (m .zero) ++ nameRows name)
+      (exactly _ (first-refusals w (length blob) strings name (m .misfit) (m .zero)) .accepted .0 (sym told ∙ accepts-done a r))
+      (λ unfinished figures lent stored misfit zero ended outside text wrong.
+          record { blob-fits = fit-blob w (length blob) lent; names = fit-strings w strings stored; in-order = misfit })
 
   -- refused by the first step
   pub refused-first : accepts a ≡ false → Tests w blob strings name m (record { answer = a; offset = 0; added = 0; after = w })
@@ -83,10 +81,10 @@ module _ (w : Record) (blob strings name : List ℕ) (m : Measured) {a : Answer}
         ∙ ap (λ (x : Record). first ((isFull (placeOf w strings name) ⇒ StringRoom) ∷ (overfull x ⇒ BlobRoom) ∷ [])) (after-of v k)
 
     room-passed : accepts b ≡ true → overfull after ≡ false
-    unfolding NoneHolds Refusals accepts
+    unfolding all ByName Refusals accepts
     room-passed h =
         let rows = (p .full ⇒ StringRoom) ∷ (overfull after ⇒ BlobRoom) ∷ [] in
-        exactly rows (refl, (refl, tt)) .accepted .0 (sym says ∙ accepts-done b h) .1 .0
+        by-name rows (exactly rows refl .accepted .0 (sym says ∙ accepts-done b h)) (λ full over. over)
 
     pub answered-second : Tests w blob strings name m (record { answer = b; offset = p .offset; added = p .added; after = after })
     unfolding propertyAnswer propertyRows roundUp

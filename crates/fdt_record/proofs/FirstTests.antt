@@ -10,19 +10,19 @@ use Rattle.fdt_record.specs.Rows.{first}
 use Rattle.fdt_record.specs.Tests.{aloneRows, blobRows, stringsRows}
 use Rattle.fdt_record.proofs.Answers.{accepts-done}
 use Rattle.fdt_record.proofs.Fits.{FitRecord, fit-record, FitBlob, fit-blob, FitStrings, fit-strings}
-use Rattle.fdt_record.proofs.Rows.{NoneHolds, Refusals, refusals-more, exactly}
+use Rattle.fdt_record.proofs.Rows.{all, Refusals, ByName, by-name, exactly}
 
 pub alone-refusals : (w : Record) → Refusals (aloneRows w)
-unfolding aloneRows Refusals accepts
-alone-refusals w = (refl, (refl, tt))
+unfolding aloneRows all Refusals accepts
+alone-refusals w = refl
 
 pub blob-refusals : (w : Record) (lent : ℕ) → Refusals (blobRows w lent)
-unfolding blobRows
-blob-refusals w lent = refusals-more (aloneRows w) (alone-refusals w) _
+unfolding blobRows aloneRows all Refusals accepts
+blob-refusals w lent = refl
 
 pub strings-refusals : (w : Record) (lent : ℕ) (strings : List ℕ) → Refusals (stringsRows w lent strings)
-unfolding stringsRows
-strings-refusals w lent strings = refusals-more (blobRows w lent) (blob-refusals w lent) _
+unfolding stringsRows blobRows aloneRows all Refusals accepts
+strings-refusals w lent strings = refl
 
 -- the tests of a record and a blob were passed
 pub record BlobPassed (w : Record) (lent : ℕ) : Type 0 where
@@ -30,10 +30,10 @@ pub record BlobPassed (w : Record) (lent : ℕ) : Type 0 where
   pub blob : FitBlob w lent
 
 pub blob-passed : (w : Record) (lent : ℕ) {a : Answer} → a ≡ first (blobRows w lent) → accepts a ≡ true → BlobPassed w lent
-unfolding blobRows aloneRows NoneHolds
+unfolding blobRows aloneRows ByName
 blob-passed w lent {a} told t =
-    let n = exactly (blobRows w lent) (blob-refusals w lent) .accepted .0 (sym told ∙ accepts-done a t) in
-    record { alone = fit-record w (n .1 .0); blob = fit-blob w lent (n .1 .1 .0) }
+    by-name (blobRows w lent) (exactly (blobRows w lent) (blob-refusals w lent) .accepted .0 (sym told ∙ accepts-done a t))
+    (λ unfinished figures blob. record { alone = fit-record w figures; blob = fit-blob w lent blob })
 
 -- and those of the strings
 pub record StringsPassed (w : Record) (lent : ℕ) (bytes : List ℕ) : Type 0 where
@@ -41,7 +41,7 @@ pub record StringsPassed (w : Record) (lent : ℕ) (bytes : List ℕ) : Type 0 w
   pub strings : FitStrings w bytes
 
 pub strings-passed : (w : Record) (lent : ℕ) (strings : List ℕ) {a : Answer} → a ≡ first (stringsRows w lent strings) → accepts a ≡ true → StringsPassed w lent strings
-unfolding stringsRows blobRows aloneRows NoneHolds
+unfolding stringsRows blobRows aloneRows ByName
 strings-passed w lent strings {a} told t =
-    let n = exactly (stringsRows w lent strings) (strings-refusals w lent strings) .accepted .0 (sym told ∙ accepts-done a t) in
-    record { blob = fit-blob w lent (n .1 .1 .0); strings = fit-strings w strings (n .1 .1 .1 .0) }
+    by-name (stringsRows w lent strings) (exactly (stringsRows w lent strings) (strings-refusals w lent strings) .accepted .0 (sym told ∙ accepts-done a t))
+    (λ unfinished figures blob stored. record { blob = fit-blob w lent blob; strings = fit-strings w strings stored })

@@ -1,8 +1,9 @@
 -- Laws of rows: the first row that holds answers, exactly; where none holds the call is accepted.
 use mathlib.Core.Path.{_≡_, refl, sym, ap, _∙_}
-use mathlib.Core.Bool.{Bool, true, false, cond, true≢false}
+use mathlib.Core.Bool.{Bool, true, false, not, cond, _&&_, true≢false}
 use mathlib.Core.List.{List, [], _∷_, _++_}
 use mathlib.Core.Logic.{_↔_}
+use borrow.Author.Tests.{not-true}
 use Rattle.fdt_record.specs.declared.Answer.{Answer}
 use Rattle.fdt_record.specs.declared.Answer.the-variants.{Done, Misfit}
 use Rattle.fdt_record.specs.Answers.{accepts, upon}
@@ -29,10 +30,42 @@ unfoldable pub NoneHolds : List Row → Type 0
 NoneHolds [] = Unit {0}
 NoneHolds ((b ⇒ a) ∷ rows) = (b ≡ false) × NoneHolds rows
 
+-- that every test fails, used with a name for each
+unfoldable pub ByName : List Row → Type 0 → Type 0
+ByName [] R = R
+ByName ((b ⇒ a) ∷ rows) R = b ≡ false → ByName rows R
+
+pub by-name : {R : Type 0} (rows : List Row) → NoneHolds rows → ByName rows R → R
+unfolding NoneHolds ByName
+by-name [] n f = f
+by-name ((b ⇒ a) ∷ rows) n f = by-name rows (n .1) (f (n .0))
+
+-- the test holds of every answer of the rows
+unfoldable pub all : (Answer → Bool) → List Row → Bool
+all p [] = true
+all p ((b ⇒ a) ∷ rows) = p a && all p rows
+
+both : (a b : Bool) → (a && b) ≡ true → (a ≡ true) × (b ≡ true)
+both true b e = (refl, e)
+both false b e = absurd (true≢false (sym e))
+
+-- then it holds of the answer, if it holds of acceptance
+pub first-all : (p : Answer → Bool) (rows : List Row) → p Done ≡ true → all p rows ≡ true → p (first rows) ≡ true
+unfolding first all
+first-all p [] d e = d
+first-all p ((true ⇒ a) ∷ rows) d e = both (p a) (all p rows) e .0
+first-all p ((false ⇒ a) ∷ rows) d e = first-all p rows d (both (p a) (all p rows) e .1)
+
 -- every answer of the rows is a refusal
+abbrev refuses : Answer → Bool
+refuses a = not (accepts a)
+
 unfoldable pub Refusals : List Row → Type 0
-Refusals [] = Unit {0}
-Refusals ((b ⇒ a) ∷ rows) = (accepts a ≡ false) × Refusals rows
+Refusals rows = all refuses rows ≡ true
+
+apart : (b : Bool) (a : Answer) (rows : List Row) → Refusals ((b ⇒ a) ∷ rows) → (accepts a ≡ false) × Refusals rows
+unfolding all Refusals
+apart b a rows r = let p = both (refuses a) (all refuses rows) r in (not-true (accepts a) (p .0), p .1)
 
 -- a refusal is given by a row that holds, after rows that do not
 pub record Given (rows : List Row) (a : Answer) : Type 0 where
@@ -43,12 +76,12 @@ pub record Given (rows : List Row) (a : Answer) : Type 0 where
 
 -- accepted exactly when every test fails
 accepted-exactly : (rows : List Row) → Refusals rows → (first rows ≡ Done) ↔ NoneHolds rows
-unfolding first NoneHolds Refusals accepts
+unfolding first NoneHolds accepts
 accepted-exactly [] r = (λ e. tt, λ n. refl)
 accepted-exactly ((true ⇒ a) ∷ rows) r =
-    (λ e. absurd (true≢false (ap accepts (sym e) ∙ r .0)), λ n. absurd (true≢false (n .0)))
+    (λ e. absurd (true≢false (ap accepts (sym e) ∙ apart true a rows r .0)), λ n. absurd (true≢false (n .0)))
 accepted-exactly ((false ⇒ a) ∷ rows) r =
-    let ih = accepted-exactly rows (r .1) in (λ e. (refl, ih .0 e), λ n. ih .1 (n .1))
+    let ih = accepted-exactly rows (apart false a rows r .1) in (λ e. (refl, ih .0 e), λ n. ih .1 (n .1))
 
 -- a refusal is the answer exactly when its row holds and no earlier one does
 refused-exactly : (rows : List Row) (a : Answer) → accepts a ≡ false → (first rows ≡ a) ↔ Given rows a
@@ -78,23 +111,12 @@ pub record Exactly (rows : List Row) (answer : Answer) : Type 0 where
 pub exactly : (rows : List Row) → Refusals rows → Exactly rows (first rows)
 exactly rows r = record { accepted = accepted-exactly rows r; refused = refused-exactly rows }
 
--- what holds of acceptance and of every answer of the rows holds of the answer
-unfoldable pub Every : (Answer → Type 0) → List Row → Type 0
-Every P [] = Unit {0}
-Every P ((b ⇒ a) ∷ rows) = P a × Every P rows
-
-pub first-every : (P : Answer → Type 0) (rows : List Row) → P Done → Every P rows → P (first rows)
-unfolding first Every
-first-every P [] d h = d
-first-every P ((true ⇒ a) ∷ rows) d h = h .0
-first-every P ((false ⇒ a) ∷ rows) d h = first-every P rows d (h .1)
-
 -- rows after rows: the later ones answer where none of the earlier holds
 pub first-append : (rows more : List Row) → Refusals rows → first (rows ++ more) ≡ upon (first rows) (first more) (first rows)
-unfolding first Refusals accepts
+unfolding first accepts
 first-append [] more r = refl
-first-append ((true ⇒ a) ∷ rows) more r = sym (simp (r .0))
-first-append ((false ⇒ a) ∷ rows) more r = first-append rows more (r .1)
+first-append ((true ⇒ a) ∷ rows) more r = sym (simp (apart true a rows r .0))
+first-append ((false ⇒ a) ∷ rows) more r = first-append rows more (apart false a rows r .1)
 
 -- rows that answer alike, and later ones that do so where those accept
 pub append-same : (rows rows′ more more′ : List Row) → Refusals rows → Refusals rows′ → first rows ≡ first rows′ → (accepts (first rows) ≡ true → first more ≡ first more′) → first (rows ++ more) ≡ first (rows′ ++ more′)
@@ -104,9 +126,10 @@ append-same rows rows′ more more′ r r′ e f =
 
 -- one more misfit is one more refusal
 pub refusals-more : (rows : List Row) → Refusals rows → (b : Bool) → Refusals (rows ++ (b ⇒ Misfit) ∷ [])
-unfolding Refusals accepts
-refusals-more [] r b = (refl, tt)
-refusals-more ((c ⇒ a) ∷ rows) r b = (r .0, refusals-more rows (r .1) b)
+unfolding all Refusals accepts
+refusals-more [] r b = refl
+refusals-more ((c ⇒ a) ∷ rows) r b =
+    ap (λ (t : Bool). t && all refuses (rows ++ (b ⇒ Misfit) ∷ [])) (both (refuses a) (all refuses rows) r .0) ∙ refusals-more rows (apart c a rows r .1) b
 
 -- Rows that gave an answer, and what follows them.
 module _ (rows : List Row) (refusals : Refusals rows) {a : Answer} (told : a ≡ first rows) where

@@ -14,7 +14,7 @@ use Rattle.fdt_record.specs.Tests.{aloneRows, blobRows, stringsRows}
 use Rattle.fdt_record.proofs.Answers.{accepts-done}
 use Rattle.fdt_record.proofs.FirstTests.{strings-refusals}
 use Rattle.fdt_record.proofs.Fits.{FitPhandles, fit-phandles}
-use Rattle.fdt_record.proofs.Rows.{NoneHolds, skip, hit, done, refusals-more, exactly, stands, goes-on, one-more}
+use Rattle.fdt_record.proofs.Rows.{ByName, by-name, skip, hit, done, refusals-more, exactly, stands, goes-on, one-more}
 use Rattle.fdt_phandles.specs.Phandle.{recordRows, recordAnswer}
 use Rattle.fdt_phandles.proofs.record_tests.Statement.{statement}
 use Rattle.fdt_phandles.proofs.record_tests.Tie as tie
@@ -38,10 +38,11 @@ told c = c .or-misfit .ensures ∙ one-more _ (strings-refusals _ _ _) (c .befor
 
 -- none of the misfits holds, so the record fits the table
 fits : (c : tie.Else1) → let a = begun (c .before .before .before .before) .args in FitPhandles (a .w) (length (a .phandles .now))
-unfolding stringsRows blobRows aloneRows NoneHolds
+unfolding stringsRows blobRows aloneRows ByName
 fits c =
-    fit-phandles _ _
-    (exactly _ (refusals-more _ (strings-refusals _ _ _) _) .accepted .0 (sym (told (c .before .before)) ∙ accepts-done _ (sym (c .before .accepted .ensures) ∙ not-false _ (c .if1 .left))) .1 .1 .1 .1 .0)
+    by-name (misfits (begun (c .before .before .before .before)))
+    (exactly _ (refusals-more _ (strings-refusals _ _ _) _) .accepted .0 (sym (told (c .before .before)) ∙ accepts-done _ (sym (c .before .accepted .ensures) ∙ not-false _ (c .if1 .left))))
+    (λ unfinished figures blob stored misfit. fit-phandles _ _ misfit)
 
 fitted : (c : tie.Else1) → let s = begun (c .before .before .before .before) in let a = s .args in recordAnswer (a .w) (a .lent) (a .strings .now) (a .phandles .now) (a .val) ≡ first (later s)
 unfolding recordAnswer recordRows stringsRows blobRows aloneRows

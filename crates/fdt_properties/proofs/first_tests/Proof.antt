@@ -25,12 +25,15 @@ later s =
     ∷ (eqb (a .w .«node_depth») 0 ⇒ PropertyBeforeBeginNode)
     ∷ nameRows (a .name .now)
 
+abbrev begun : tie.After-or-misfit → tie.Start
+begun c = c .before .before .before .before
+
 -- the misfits, with the value's
-told : (c : tie.After-or-misfit) → let a = c .before .before .before .before .args in c .or-misfit .result ≡ first (stringsRows (a .w) (a .lent) (a .strings .now) ++ (a .misfit ⇒ Misfit) ∷ [])
+told : (c : tie.After-or-misfit) → let a = begun c .args in c .or-misfit .result ≡ first (stringsRows (a .w) (a .lent) (a .strings .now) ++ (a .misfit ⇒ Misfit) ∷ [])
 told c = c .or-misfit .ensures ∙ one-more _ (strings-refusals _ _ _) (c .before .strings-tests .ensures) refl
 
 -- none holds
-fits : (c : tie.Else1) → let s = c .before .before .before .before .before .before in first (rows s) ≡ first (later s)
+fits : (c : tie.Else1) → let s = begun (c .before .before) in first (rows s) ≡ first (later s)
 unfolding stateRows stringsRows blobRows aloneRows
 fits c = goes-on _ (refusals-more _ (strings-refusals _ _ _) _) (told (c .before .before)) _ (sym (c .before .accepted .ensures) ∙ not-false _ (c .if1 .left))
 
