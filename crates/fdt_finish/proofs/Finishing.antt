@@ -67,19 +67,19 @@ unfolding finishRows stringsRows blobRows aloneRows ByName finishedRecord
 finish-fits w lent strings e =
     by-name (finishRows w lent strings) (finish-exactly w lent strings .accepted .0 e)
     (λ unfinished figures blob stored unclosed over.
-        let b = fit-blob w lent blob in
-        let s = fit-strings w strings stored in
-        record {
-          unmarked = unfinished;
-          blob = b;
-          names = s;
-          depth = eqb-true (w .«node_depth») 0 (not-false (eqb (w .«node_depth») 0) unclosed);
-          started = b .started;
-          room = not-overfull (finishedRecord w) over;
-          small = b .small;
-          within = b .within;
-          stored = omega (arith, s .used, s .within);
-        })
+    let b = fit-blob w lent blob in
+    let s = fit-strings w strings stored in
+    record {
+      unmarked = unfinished;
+      blob = b;
+      names = s;
+      depth = eqb-true (w .«node_depth») 0 (not-false (eqb (w .«node_depth») 0) unclosed);
+      started = b .started;
+      room = not-overfull (finishedRecord w) over;
+      small = b .small;
+      within = b .within;
+      stored = omega (arith, s .used, s .within);
+    })
 
 module _ (w : Record) (blob strings : List ℕ) where
   -- what goes into the rest and then the header

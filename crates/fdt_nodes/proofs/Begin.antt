@@ -72,12 +72,12 @@ module _ (w : Record) (lent : ℕ) (name : List ℕ) where
   begin-fits e =
       by-name (beginRows w lent name) (begin-exactly .accepted .0 e)
       (λ unfinished figures blob deep zero wrong over.
-          record {
-            blob = fit-blob w lent blob;
-            depth = leb-false mostDepth (w .«node_depth») deep;
-            plain = zero;
-            room = not-overfull (begunRecord w name) over;
-          })
+      record {
+        blob = fit-blob w lent blob;
+        depth = leb-false mostDepth (w .«node_depth») deep;
+        plain = zero;
+        room = not-overfull (begunRecord w name) over;
+      })
 
 -- What a begin gives, by its answer.
 module _ (w : Record) (blob name : List ℕ) (a : Answer) (told : a ≡ beginAnswer w (length blob) name) where

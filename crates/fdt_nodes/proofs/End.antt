@@ -36,12 +36,12 @@ module _ (w : Record) (lent handle : ℕ) where
   end-fits e =
       by-name (endRows w lent handle) (end-exactly .accepted .0 e)
       (λ unfinished figures blob other over.
-          let z = eqb-false (w .«node_depth») 0 (neither (not (eqb handle (w .«node_depth»))) (eqb (w .«node_depth») 0) other .1) in
-          record {
-            blob = fit-blob w lent blob;
-            depth = omega arith;
-            room = omega (arith, not-overfull (endedRecord w) over, length-end);
-          })
+      let z = eqb-false (w .«node_depth») 0 (neither (not (eqb handle (w .«node_depth»))) (eqb (w .«node_depth») 0) other .1) in
+      record {
+        blob = fit-blob w lent blob;
+        depth = omega arith;
+        room = omega (arith, not-overfull (endedRecord w) over, length-end);
+      })
 
 -- the record after an accepted end, with its 4 bytes used
 pub ended-record : (w : Record) → withEnded true (withDepth (w .«node_depth» - 1) (withUsedBlob (w .«blob_used» + 4) w)) ≡ endedRecord w

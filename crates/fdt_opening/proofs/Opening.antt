@@ -67,16 +67,16 @@ unfolding openingRows ByName openedRecord
 opened-fits lent strings phandles numbers e =
     by-name (openingRows lent strings phandles numbers) (opening-exactly lent strings phandles numbers .accepted .0 e)
     (λ odd many invalid overlap over.
-        let even : length numbers % 2 ≡ 0 = eqb-true (length numbers % 2) 0 (not-false _ odd) in
-        let started : structureStart (count numbers) ≤ usable blobCeiling lent = not-overfull (openedRecord lent strings phandles numbers) over in
-        record {
-          even = even;
-          few = ltb-false mostReservations (count numbers) many;
-          valid = invalid;
-          apart = λ o. true≢false (sym (overlapping-exact numbers .1 o) ∙ overlap);
-          started = started;
-          room = omega (arith, usable-within blobCeiling lent .0);
-        })
+    let even : length numbers % 2 ≡ 0 = eqb-true (length numbers % 2) 0 (not-false _ odd) in
+    let started : structureStart (count numbers) ≤ usable blobCeiling lent = not-overfull (openedRecord lent strings phandles numbers) over in
+    record {
+      even = even;
+      few = ltb-false mostReservations (count numbers) many;
+      valid = invalid;
+      apart = λ o. true≢false (sym (overlapping-exact numbers .1 o) ∙ overlap);
+      started = started;
+      room = omega (arith, usable-within blobCeiling lent .0);
+    })
 
 module _ (blob : List ℕ) (strings phandles : ℕ) (numbers : List ℕ) where
   -- what an accepted opening writes

@@ -62,7 +62,7 @@ module _ (w : Record) (lent : ℕ) (strings table : List ℕ) (value : ℕ) wher
   record-fits e =
       by-name (recordRows w lent strings table value) (record-exactly .accepted .0 e)
       (λ unfinished figures blob stored misfit known full.
-          record { phandles = fit-phandles w (length table) misfit; room = leb-false (w .«phandles_room») (w .«phandles_used») full })
+      record { phandles = fit-phandles w (length table) misfit; room = leb-false (w .«phandles_room») (w .«phandles_used») full })
 
   -- a value that was recorded is at the count
   pub table-at-count : recordAnswer w lent strings table value ≡ Done → getD (phandleTable w lent strings table value) (w .«phandles_used») 0 ≡ value

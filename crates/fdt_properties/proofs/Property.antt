@@ -47,15 +47,15 @@ module _ (w : Record) (blob strings name : List ℕ) (v : Value) where
   property-fits e =
       by-name (propertyRows w blob strings name v) (property-exactly .accepted .0 e)
       (λ unfinished figures lent stored misfit text ended outside zero wrong full over.
-          let d = eqb-false (w .«node_depth») 0 outside in
-          record {
-            figures = fit-record w figures;
-            blob-fits = fit-blob w (length blob) lent;
-            names = fit-strings w strings stored;
-            value = misfit;
-            unended = ended;
-            inside = omega arith;
-            plain = zero;
-            placed = full;
-            room = not-overfull (propertyRecord w strings name v) over;
-          })
+      let d = eqb-false (w .«node_depth») 0 outside in
+      record {
+        figures = fit-record w figures;
+        blob-fits = fit-blob w (length blob) lent;
+        names = fit-strings w strings stored;
+        value = misfit;
+        unended = ended;
+        inside = omega arith;
+        plain = zero;
+        placed = full;
+        room = not-overfull (propertyRecord w strings name v) over;
+      })

@@ -50,7 +50,7 @@ module _ (w : Record) (blob strings name : List ℕ) (m : Measured) {a : Answer}
       by-name (stateRows w (length blob) strings (m .misfit) (m .zero) ++ nameRows name)
       (exactly _ (first-refusals w (length blob) strings name (m .misfit) (m .zero)) .accepted .0 (sym told ∙ accepts-done a r))
       (λ unfinished figures lent stored misfit zero ended outside text wrong.
-          record { blob-fits = fit-blob w (length blob) lent; names = fit-strings w strings stored; in-order = misfit })
+      record { blob-fits = fit-blob w (length blob) lent; names = fit-strings w strings stored; in-order = misfit })
 
   -- refused by the first step
   pub refused-first : accepts a ≡ false → Tests w blob strings name m (record { answer = a; offset = 0; added = 0; after = w })

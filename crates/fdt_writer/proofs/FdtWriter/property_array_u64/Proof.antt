@@ -3,13 +3,16 @@ use Rattle.fdt_calls.proofs.Called.{property-array-u64-called}
 use Rattle.fdt_writer.proofs.FdtWriter.property_array_u64.Statement.{statement}
 use Rattle.fdt_writer.proofs.FdtWriter.property_array_u64.Tie as tie
 
+abbrev called : tie.After-wrapped → tie.After-write-wide-cells
+called c = c .before .before .before .before .before
+
 returns : tie.Need-returns
-returns c phandles = property-array-u64-called (c .wrapped .ensures) (c .before .before .before .before .before .write-wide-cells .ensures)
+returns c phandles = property-array-u64-called (c .wrapped .ensures) (called c .write-wide-cells .ensures)
 
 pub property-array-u64-spec : {M : Type 1} → statement M
 property-array-u64-spec =
     tie.close
     (tie.spec (λ c κs. tt) (λ c κs. tt)
-    (λ c. c .before .before .before .before .before .write-wide-cells .kept .1 .0)
-    (λ c. c .before .before .before .before .before .write-wide-cells .kept .1 .1 .0)
+    (λ c. called c .write-wide-cells .kept .1 .0)
+    (λ c. called c .write-wide-cells .kept .1 .1 .0)
     returns)
