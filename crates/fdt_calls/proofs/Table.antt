@@ -11,7 +11,7 @@ use Rattle.fdt_record.specs.declared.Outcome.{Outcome}
 use Rattle.fdt_record.specs.Answers.{numberOf, accepts}
 use Rattle.fdt_record.specs.Rows.{Row, _⇒_, first}
 use Rattle.fdt_record.specs.Tests.{aloneRows, blobRows, stringsRows}
-use Rattle.fdt_record.proofs.Rows.{all, first-all, Refusals, Exactly, exactly, first-append}
+use Rattle.fdt_record.proofs.Rows.{allAnswers, first-answers, Refusals, Exactly, exactly, first-append}
 use Rattle.fdt_opening.specs.Opening.{openingRows, openingAnswer}
 use Rattle.fdt_nodes.specs.Begin.{beginRows, beginAnswer}
 use Rattle.fdt_nodes.specs.End.{endRows, endAnswer}
@@ -29,8 +29,8 @@ abbrev pub Neither34 : Answer → Type 0
 Neither34 a = neither a ≡ true
 
 -- every answer of a call's rows is a refusal, and none has number 3 or 4
-each : (c : Request) (s : Desk) → Refusals (rows c s) × (all neither (rows c s) ≡ true)
-unfolding rows all Refusals accepts aloneRows blobRows stringsRows openingRows beginRows endRows stateRows nameRows roomRows propertyRows recordRows finishRows
+each : (c : Request) (s : Desk) → Refusals (rows c s) × (allAnswers neither (rows c s) ≡ true)
+unfolding rows allAnswers Refusals accepts aloneRows blobRows stringsRows openingRows beginRows endRows stateRows nameRows roomRows propertyRows recordRows finishRows
 each (to-open numbers) s = (refl, refl)
 each (to-boot n) s = (refl, refl)
 each (to-begin name) s = (refl, refl)
@@ -42,7 +42,7 @@ each to-show s = (refl, refl)
 
 -- a phandle's own rows
 record-refuse : (value : ℕ) (s : Desk) → Refusals (recordRows (s .writer) (length (s .blob)) (s .strings) (s .phandles) value)
-unfolding all Refusals accepts aloneRows blobRows stringsRows recordRows
+unfolding allAnswers Refusals accepts aloneRows blobRows stringsRows recordRows
 record-refuse value s = refl
 
 answer-upon : (b : Bool) (x y : Outcome) → cond b x y .answer ≡ cond b (x .answer) (y .answer)
@@ -66,4 +66,4 @@ pub answers-exactly : (c : Request) (s : Desk) → Exactly (rows c s) (answer c 
 answers-exactly c s = subst (Exactly (rows c s)) (sym (first-row c s)) (exactly (rows c s) (each c s .0))
 
 pub never-given : (c : Request) (s : Desk) → Neither34 (answer c s)
-never-given c s = subst Neither34 (sym (first-row c s)) (first-all neither (rows c s) refl (each c s .1))
+never-given c s = subst Neither34 (sym (first-row c s)) (first-answers neither (rows c s) refl (each c s .1))

@@ -10,8 +10,8 @@ use Rattle.fdt_finish.specs.Shown.{shown}
 use Rattle.fdt_calls.specs.Calls.{Call, asks, Desk, answer, after}
 
 -- a record and three buffers, as a desk
-abbrev pub desk : Record → List ℕ → List ℕ → List ℕ → Desk
-desk w blob strings phandles = record { writer = w; blob = blob; strings = strings; phandles = phandles }
+abbrev pub deskOf : Record → List ℕ → List ℕ → List ℕ → Desk
+deskOf w blob strings phandles = record { writer = w; blob = blob; strings = strings; phandles = phandles }
 
 -- a public call was made: it found the desk `before`, gave this answer and left this desk
 pub record Called (c : Call) (before : Desk) (given : Answer) (left : Desk) : Type 0 where

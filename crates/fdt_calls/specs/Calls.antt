@@ -74,7 +74,7 @@ pub data Effect : Type 0 where
   sets-boot : ℕ → Effect
   adds : Event → Effect
   records : ℕ → Effect
-  nothing : Effect
+  no-effect : Effect
 
 -- the effect of each request; a phandle's value is recorded before the call goes on as a property
 unfoldable pub effect : Request → Effect
@@ -84,8 +84,8 @@ effect (to-begin name) = adds (begins name)
 effect (to-end handle) = adds ends
 effect (to-have name v) = adds (has (name ≔ valueBytes v))
 effect (to-mark value) = records value
-effect to-finish = nothing
-effect to-show = nothing
+effect to-finish = no-effect
+effect to-show = no-effect
 
 -- the newest record and the three buffers
 pub record Desk : Type 0 where
@@ -172,7 +172,7 @@ leftBy opens s = withWriter of-opening.closedRecord s
 leftBy (sets-boot n) s = s
 leftBy (adds e) s = s
 leftBy (records value) s = upon (markAnswer value s) (marked s value) s
-leftBy nothing s = s
+leftBy no-effect s = s
 
 -- what a refused call leaves
 abbrev pub unaltered : Request → Desk → Desk

@@ -24,7 +24,7 @@ use Rattle.fdt_record.specs.Limits.{blobCeiling}
 use Rattle.fdt_record.specs.Tests.{aloneRows, blobRows, stringsRows}
 use Rattle.fdt_record.proofs.Answers.{accepts-done, upon-done, upon-refused}
 use Rattle.fdt_record.proofs.Fits.{FitBlob, fit-blob, FitStrings, fit-strings, not-overfull}
-use Rattle.fdt_record.proofs.Rows.{all, Refusals, ByName, by-name, Exactly, exactly}
+use Rattle.fdt_record.proofs.Rows.{allAnswers, Refusals, ByName, by-name, Exactly, exactly}
 use Rattle.fdt_finish.specs.Finish.{usedStrings, finishRows, finishAnswer, finishedRecord, finishedBlob, finishBlob}
 
 -- word 9 and then the strings, into the rest of the blob
@@ -43,7 +43,7 @@ word-more {words} {before} {now} {after} {i} room w h e =
 
 module _ (w : Record) (lent : ℕ) (strings : List ℕ) where
   pub finish-refusals : Refusals (finishRows w lent strings)
-  unfolding finishRows stringsRows blobRows aloneRows all Refusals accepts
+  unfolding finishRows stringsRows blobRows aloneRows allAnswers Refusals accepts
   finish-refusals = refl
 
   pub finish-exactly : Exactly (finishRows w lent strings) (finishAnswer w lent strings)
@@ -52,7 +52,7 @@ module _ (w : Record) (lent : ℕ) (strings : List ℕ) where
 
 -- what an accepted finish may rely on
 pub record Finishable (w : Record) (lent : ℕ) (strings : List ℕ) : Type 0 where
-  pub unmarked : w .finished ≡ false
+  pub unfinished : w .finished ≡ false
   pub blob : FitBlob w lent
   pub names : FitStrings w strings
   pub depth : w .«node_depth» ≡ 0
@@ -70,7 +70,7 @@ finish-fits w lent strings e =
     let b = fit-blob w lent blob in
     let s = fit-strings w strings stored in
     record {
-      unmarked = unfinished;
+      unfinished = unfinished;
       blob = b;
       names = s;
       depth = eqb-true (w .«node_depth») 0 (not-false (eqb (w .«node_depth») 0) unclosed);

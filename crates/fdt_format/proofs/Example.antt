@@ -8,18 +8,18 @@ use lib.ListN.{length}
 use Rattle.fdt_bytes.specs.BigEndian.{bigEndian, cellBytes}
 use Rattle.fdt_bytes.specs.Padding.{padding, zeros, padded}
 use Rattle.fdt_strings.specs.Entries.{foundValues, entry, joined, same, firstFrom, NoZero, no-byte, next-byte}
-use Rattle.fdt_format.specs.Description.{_≔_, no-more, node, reserved, Description}
+use Rattle.fdt_format.specs.Description.{_≔_, no-more, node, reservation, Description}
 use Rattle.fdt_format.specs.Events.{propertyEvents, events}
 use Rattle.fdt_header.specs.Header.{reservationBytes, wordsFrom, headerWords, headerBytes}
 use Rattle.fdt_format.specs.Tokens.{beginBytes, propertyBytes, endBytes, finalBytes}
 use Rattle.fdt_format.specs.Reading.{reading}
-use Rattle.fdt_format.specs.Blob.{orAtEnd, withName, namesFrom, namesOf, foundAt, offsetOf, eventBytes, structureBytes, numbersOf, blobFrom, blobOf, Plain, AllPlain, AllTold, WellFormed}
+use Rattle.fdt_format.specs.Blob.{orAtEnd, withName, namesFrom, namesOf, foundAt, offsetOf, eventBytes, structureBytes, numbersOf, blobFrom, blobOf, Plain, AllPlain, AllReservable, WellFormed}
 use Rattle.fdt_format.proofs.ReadBack.{read-blob}
 
 -- "a" is 5 in the first node and empty in its child "b"
 unfoldable pub example : Description
 example = record {
-  reservations = reserved 0x1000 0x200 ∷ [];
+  reservations = reservation 0x1000 0x200 ∷ [];
   boot = 7;
   nodes = node [] (((97 ∷ []) ≔ (5 ∷ [])) ∷ []) (node (98 ∷ []) (((97 ∷ []) ≔ []) ∷ []) no-more no-more) no-more;
 }
@@ -51,10 +51,10 @@ one-byte n h = next-byte h no-byte
 
 -- the format can hold it
 pub example-formed : WellFormed example
-unfolding example events propertyEvents AllPlain Plain AllTold
+unfolding example events propertyEvents AllPlain Plain AllReservable
 example-formed = record {
   names = (no-byte, (one-byte 97 (lit< tt), (one-byte 98 (lit< tt), (one-byte 97 (lit< tt), (tt, (tt, tt))))));
-  told = (lit< tt, lit< tt, lit< tt, tt);
+  reservable = (lit< tt, lit< tt, lit< tt, tt);
   boot = lit< tt;
   size = subst (λ (l : List ℕ). length l < 2 ^ 32) (sym example-blob) example-small;
 }

@@ -17,7 +17,7 @@ use Rattle.fdt_format.specs.Description.{Property, Nodes, Reservation, D
 use Rattle.fdt_format.specs.Events.{Event, begins, has, ends, events, nodesOf}
 use Rattle.fdt_format.specs.Reading.{areasOf, goodHeader, eventAt, walkNodes, described, readReservations, readNodes, reading}
 use Rattle.fdt_format.specs.Step.{stepAt}
-use Rattle.fdt_format.specs.Walk.{Walk, bad, good, more, follow, steps, walk, start}
+use Rattle.fdt_format.specs.Walk.{Walk, bad, good, more, follow, steps, walk, walkStart}
 use Rattle.fdt_format.proofs.Nodes.{Accepted, described-by, nodes-exactly}
 use Rattle.fdt_format.proofs.Steps.{Kind, opens, adds, closes, Stepped, step-stepped}
 
@@ -90,10 +90,10 @@ module _ (b : List ℕ) where
     ordered (suc k) s o ts q = here a (steps (stepAt b a) k) s o (ordered k) (stepAt b a s) (step-stepped b a s) ts q
 
     -- an accepted walk describes nodes
-    pub nested : (ts : List Entry) → walk b a (start a) ≡ good ts → (f : Nodes) × (nodesOf (map (eventAt b) ts) ≡ some f)
-    unfolding walk start Open Ordered
+    pub nested : (ts : List Entry) → walk b a (walkStart a) ≡ good ts → (f : Nodes) × (nodesOf (map (eventAt b) ts) ≡ some f)
+    unfolding walk walkStart Open Ordered
     nested ts q =
-        let o : Accepted 0 true (map (eventAt b) ts) = ordered _ (start a) (λ z. absurd (false≢true z)) ts q in
+        let o : Accepted 0 true (map (eventAt b) ts) = ordered _ (walkStart a) (λ z. absurd (false≢true z)) ts q in
         let d = described-by (map (eventAt b) ts) (outside-any (map (eventAt b) ts) true false o) in
         (d .0, d .1)
 
@@ -105,7 +105,7 @@ pub record Parts (b : List ℕ) (d : Description) : Type 0 where
   pub reservations : readReservations b (areasOf b) ≡ some (d .reservations)
   pub boot : areasOf b .boot ≡ d .boot
   pub entries : List Entry
-  pub walked : walk b (areasOf b) (start (areasOf b)) ≡ good entries
+  pub walked : walk b (areasOf b) (walkStart (areasOf b)) ≡ good entries
   pub nodes : events (d .nodes) [] ≡ map (eventAt b) entries
 
 passed : {A : Type 0} (t : Bool) (o : Option A) (x : A) → cond t o none ≡ some x → (t ≡ true) × (o ≡ some x)
@@ -132,7 +132,7 @@ module _ (b : List ℕ) where
   read-parts d q =
       let h = passed (goodHeader b) _ d q in
       let p = described-parts (areasOf b .boot) _ _ d (h .1) in
-      let w = walked-good b (walk b (areasOf b) (start (areasOf b))) (d .nodes) (p .2) in
+      let w = walked-good b (walk b (areasOf b) (walkStart (areasOf b))) (d .nodes) (p .2) in
       record { header = h .0; reservations = p .0; boot = p .1; entries = w .0; walked = w .1; nodes = nodes-exactly _ (d .nodes) .0 (w .2) }
 
   parts-read : (d : Description) → Parts b d → reading b ≡ some d
@@ -147,7 +147,7 @@ module _ (b : List ℕ) where
 
   -- a reading refuses nothing else: a good header, reservations and a good walk always give a description
   pub read-exactly : (rs : List Reservation) (ts : List Entry) → goodHeader b ≡ true → readReservations b (areasOf b) ≡ some rs
-      → walk b (areasOf b) (start (areasOf b)) ≡ good ts
+      → walk b (areasOf b) (walkStart (areasOf b)) ≡ good ts
       → (f : Nodes) × (events f [] ≡ map (eventAt b) ts) × (reading b ≡ some (record { reservations = rs; boot = areasOf b .boot; nodes = f }))
   read-exactly rs ts h r w =
       let n = nested b (areasOf b) ts w in

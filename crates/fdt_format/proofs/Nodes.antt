@@ -9,7 +9,7 @@ use native.Mathlib.Nat.{suc-inj}
 use native.Mathlib.Omega.{arith}
 use lib.ListN.{length}
 use Rattle.fdt_format.specs.Description.{Property, Nodes, no-more, node}
-use Rattle.fdt_format.specs.Events.{Event, begins, has, ends, propertyEvents, events, Told, misplaced, told, inFront, tell, whole, nodesOf}
+use Rattle.fdt_format.specs.Events.{Event, begins, has, ends, propertyEvents, events, Meaning, misplaced, means, inFront, meaning, whole, nodesOf}
 
 -- ---- from nodes to events and back
 
@@ -23,25 +23,25 @@ unfolding join
 join-none no-more = refl
 join-none (node name properties children later) = rw (join-none later)
 
-tell-properties : (ps : List Property) (es : List Event) (f : Nodes) (around : List Nodes) → tell es ≡ told [] f around → tell (propertyEvents ps es) ≡ told ps f around
-unfolding tell inFront propertyEvents
-tell-properties [] es f around e = e
-tell-properties (p ∷ ps) es f around e = rw (tell-properties ps es f around e)
+meaning-properties : (ps : List Property) (es : List Event) (f : Nodes) (around : List Nodes) → meaning es ≡ means [] f around → meaning (propertyEvents ps es) ≡ means ps f around
+unfolding meaning inFront propertyEvents
+meaning-properties [] es f around e = e
+meaning-properties (p ∷ ps) es f around e = rw (meaning-properties ps es f around e)
 
-tell-events : (f : Nodes) (es : List Event) (g : Nodes) (around : List Nodes) → tell es ≡ told [] g around → tell (events f es) ≡ told [] (join f g) around
-unfolding tell inFront events join
-tell-events no-more es g around e = e
-tell-events (node name ps children later) es g around e =
+meaning-events : (f : Nodes) (es : List Event) (g : Nodes) (around : List Nodes) → meaning es ≡ means [] g around → meaning (events f es) ≡ means [] (join f g) around
+unfolding meaning inFront events join
+meaning-events no-more es g around e = e
+meaning-events (node name ps children later) es g around e =
     let rest : List Event = ends ∷ events later es in
-    let after : tell rest ≡ told [] no-more (join later g ∷ around) = rw (tell-events later es g around e) in
-    let below : tell (events children rest) ≡ told [] children (join later g ∷ around) =
-    rw (tell-events children rest no-more (join later g ∷ around) after, join-none children) in
-    ap (inFront (begins name)) (tell-properties ps (events children rest) children (join later g ∷ around) below)
+    let after : meaning rest ≡ means [] no-more (join later g ∷ around) = rw (meaning-events later es g around e) in
+    let below : meaning (events children rest) ≡ means [] children (join later g ∷ around) =
+    rw (meaning-events children rest no-more (join later g ∷ around) after, join-none children) in
+    ap (inFront (begins name)) (meaning-properties ps (events children rest) children (join later g ∷ around) below)
 
 -- the events of nodes give back the nodes
 pub nodes-events : (f : Nodes) → nodesOf (events f []) ≡ some f
-unfolding nodesOf tell whole
-nodes-events f = rw (tell-events f [] no-more [] refl, join-none f)
+unfolding nodesOf meaning whole
+nodes-events f = rw (meaning-events f [] no-more [] refl, join-none f)
 
 -- ---- from events to nodes and back
 
@@ -51,52 +51,52 @@ outside [] = []
 outside (f ∷ around) = ends ∷ events f (outside around)
 
 -- the events that mean this
-unfoldable retold : Told → List Event
+unfoldable retold : Meaning → List Event
 retold misplaced = []
-retold (told ps f around) = propertyEvents ps (events f (outside around))
+retold (means ps f around) = propertyEvents ps (events f (outside around))
 
 -- not out of place
-unfoldable Placed : Told → Type 0
-Placed misplaced = ⊥
-Placed (told ps f around) = Unit {0}
+unfoldable InPlace : Meaning → Type 0
+InPlace misplaced = ⊥
+InPlace (means ps f around) = Unit {0}
 
-placed-before : (e : Event) (x : Told) → Placed (inFront e x) → Placed x
-unfolding Placed inFront
+placed-before : (e : Event) (x : Meaning) → InPlace (inFront e x) → InPlace x
+unfolding InPlace inFront
 placed-before e misplaced h = h
-placed-before e (told ps f around) h = tt
+placed-before e (means ps f around) h = tt
 
-retold-front : (e : Event) (x : Told) → Placed (inFront e x) → retold (inFront e x) ≡ e ∷ retold x
-unfolding Placed inFront retold outside events propertyEvents
+retold-front : (e : Event) (x : Meaning) → InPlace (inFront e x) → retold (inFront e x) ≡ e ∷ retold x
+unfolding InPlace inFront retold outside events propertyEvents
 retold-front e misplaced h = absurd h
-retold-front (has p) (told ps f around) h = refl
-retold-front ends (told [] f around) h = refl
-retold-front ends (told (p ∷ ps) f around) h = absurd h
-retold-front (begins name) (told ps f []) h = absurd h
-retold-front (begins name) (told ps f (later ∷ around)) h = refl
+retold-front (has p) (means ps f around) h = refl
+retold-front ends (means [] f around) h = refl
+retold-front ends (means (p ∷ ps) f around) h = absurd h
+retold-front (begins name) (means ps f []) h = absurd h
+retold-front (begins name) (means ps f (later ∷ around)) h = refl
 
-retold-tell : (es : List Event) → Placed (tell es) → retold (tell es) ≡ es
-unfolding tell retold outside events propertyEvents
-retold-tell [] h = refl
-retold-tell (e ∷ es) h =
-    retold-front e (tell es) h ∙ ap {B = List Event} (λ l. e ∷ l) (retold-tell es (placed-before e (tell es) h))
+retold-meaning : (es : List Event) → InPlace (meaning es) → retold (meaning es) ≡ es
+unfolding meaning retold outside events propertyEvents
+retold-meaning [] h = refl
+retold-meaning (e ∷ es) h =
+    retold-front e (meaning es) h ∙ ap {B = List Event} (λ l. e ∷ l) (retold-meaning es (placed-before e (meaning es) h))
 
-whole-retold : (es : List Event) (x : Told) (f : Nodes) → retold x ≡ es → whole x ≡ some f → events f [] ≡ es
+whole-retold : (es : List Event) (x : Meaning) (f : Nodes) → retold x ≡ es → whole x ≡ some f → events f [] ≡ es
 unfolding whole retold outside events propertyEvents
 whole-retold es misplaced f e h = absurd (Option·none-ne-some f h)
-whole-retold es (told [] g []) f e h = rw (← Option·some-injective g f h) e
-whole-retold es (told [] g (later ∷ around)) f e h = absurd (Option·none-ne-some f h)
-whole-retold es (told (p ∷ ps) g around) f e h = absurd (Option·none-ne-some f h)
+whole-retold es (means [] g []) f e h = rw (← Option·some-injective g f h) e
+whole-retold es (means [] g (later ∷ around)) f e h = absurd (Option·none-ne-some f h)
+whole-retold es (means (p ∷ ps) g around) f e h = absurd (Option·none-ne-some f h)
 
-placed-whole : (x : Told) (f : Nodes) → whole x ≡ some f → Placed x
-unfolding whole Placed
+placed-whole : (x : Meaning) (f : Nodes) → whole x ≡ some f → InPlace x
+unfolding whole InPlace
 placed-whole misplaced f h = absurd (Option·none-ne-some f h)
-placed-whole (told ps g around) f h = tt
+placed-whole (means ps g around) f h = tt
 
 -- the nodes of events are those whose events they are
 pub nodes-exactly : (es : List Event) (f : Nodes) → (nodesOf es ≡ some f) ↔ (events f [] ≡ es)
 unfolding nodesOf
 nodes-exactly es f = (
-  λ h. whole-retold es (tell es) f (retold-tell es (placed-whole (tell es) f h)) h,
+  λ h. whole-retold es (meaning es) f (retold-meaning es (placed-whole (meaning es) f h)) h,
   λ h. rw (← h) (nodes-events f),
 )
 
@@ -113,50 +113,50 @@ Accepted (suc depth) false (has p ∷ es) = Accepted (suc depth) false es
 Accepted (suc depth) true (has p ∷ es) = ⊥
 
 -- what such events mean: as many nodes are around, and properties only where one may come
-unfoldable Shape : ℕ → Bool → Told → Type 0
+unfoldable Shape : ℕ → Bool → Meaning → Type 0
 Shape depth ended misplaced = ⊥
-Shape depth ended (told ps f around) = (length around ≡ depth) × (ended ≡ true → ps ≡ []) × (depth ≡ 0 → ps ≡ [])
+Shape depth ended (means ps f around) = (length around ≡ depth) × (ended ≡ true → ps ≡ []) × (depth ≡ 0 → ps ≡ [])
 
 module _ (depth : ℕ) where
-  shape-begins : (ended : Bool) (name : List ℕ) (x : Told) → Shape (suc depth) false x → Shape depth ended (inFront (begins name) x)
+  shape-begins : (ended : Bool) (name : List ℕ) (x : Meaning) → Shape (suc depth) false x → Shape depth ended (inFront (begins name) x)
   unfolding Shape inFront
   shape-begins ended name misplaced h = h
-  shape-begins ended name (told ps f []) h = omega (arith, h .0)
-  shape-begins ended name (told ps f (later ∷ around)) h = (suc-inj (h .0), λ _. refl, λ _. refl)
+  shape-begins ended name (means ps f []) h = omega (arith, h .0)
+  shape-begins ended name (means ps f (later ∷ around)) h = (suc-inj (h .0), λ _. refl, λ _. refl)
 
-  shape-ends : (ended : Bool) (x : Told) → Shape depth true x → Shape (suc depth) ended (inFront ends x)
+  shape-ends : (ended : Bool) (x : Meaning) → Shape depth true x → Shape (suc depth) ended (inFront ends x)
   unfolding Shape inFront
   shape-ends ended misplaced h = h
-  shape-ends ended (told [] f around) h = (ap suc (h .0), λ _. refl, λ _. refl)
-  shape-ends ended (told (p ∷ ps) f around) h = let z : p ∷ ps ≡ [] = h .1 refl in absurd (cons≢nil z)
+  shape-ends ended (means [] f around) h = (ap suc (h .0), λ _. refl, λ _. refl)
+  shape-ends ended (means (p ∷ ps) f around) h = let z : p ∷ ps ≡ [] = h .1 refl in absurd (cons≢nil z)
 
-  shape-has : (p : Property) (x : Told) → Shape (suc depth) false x → Shape (suc depth) false (inFront (has p) x)
+  shape-has : (p : Property) (x : Meaning) → Shape (suc depth) false x → Shape (suc depth) false (inFront (has p) x)
   unfolding Shape inFront
   shape-has p misplaced h = h
-  shape-has p (told ps f around) h = (h .0, λ q. absurd (false≢true q), λ q. absurd (omega (arith, q)))
+  shape-has p (means ps f around) h = (h .0, λ q. absurd (false≢true q), λ q. absurd (omega (arith, q)))
 
-shaped : (es : List Event) (depth : ℕ) (ended : Bool) → Accepted depth ended es → Shape depth ended (tell es)
-unfolding tell Accepted Shape
+shaped : (es : List Event) (depth : ℕ) (ended : Bool) → Accepted depth ended es → Shape depth ended (meaning es)
+unfolding meaning Accepted Shape
 shaped [] depth ended h = (sym h, λ _. refl, λ _. refl)
-shaped (begins name ∷ es) depth ended h = shape-begins depth ended name (tell es) (shaped es (suc depth) false h)
+shaped (begins name ∷ es) depth ended h = shape-begins depth ended name (meaning es) (shaped es (suc depth) false h)
 shaped (ends ∷ es) zero ended h = absurd h
-shaped (ends ∷ es) (suc depth) ended h = shape-ends depth ended (tell es) (shaped es depth true h)
+shaped (ends ∷ es) (suc depth) ended h = shape-ends depth ended (meaning es) (shaped es depth true h)
 shaped (has p ∷ es) zero ended h = absurd h
-shaped (has p ∷ es) (suc depth) false h = shape-has depth p (tell es) (shaped es (suc depth) false h)
+shaped (has p ∷ es) (suc depth) false h = shape-has depth p (meaning es) (shaped es (suc depth) false h)
 shaped (has p ∷ es) (suc depth) true h = absurd h
 
-whole-shape : (x : Told) → Shape 0 false x → (f : Nodes) × (whole x ≡ some f)
+whole-shape : (x : Meaning) → Shape 0 false x → (f : Nodes) × (whole x ≡ some f)
 unfolding whole Shape
 whole-shape misplaced h = absurd h
-whole-shape (told [] f []) h = (f, refl)
-whole-shape (told [] f (later ∷ around)) h = absurd (omega (arith, h .0))
-whole-shape (told (p ∷ ps) f around) h = let z : p ∷ ps ≡ [] = h .2 refl in absurd (cons≢nil z)
+whole-shape (means [] f []) h = (f, refl)
+whole-shape (means [] f (later ∷ around)) h = absurd (omega (arith, h .0))
+whole-shape (means (p ∷ ps) f around) h = let z : p ∷ ps ≡ [] = h .2 refl in absurd (cons≢nil z)
 
 -- events in order are those of nodes
 pub described-by : (es : List Event) → Accepted 0 false es → (f : Nodes) × (nodesOf es ≡ some f) × (events f [] ≡ es)
 unfolding nodesOf
 described-by es h =
-    let w : (f : Nodes) × (nodesOf es ≡ some f) = whole-shape (tell es) (shaped es 0 false h) in
+    let w : (f : Nodes) × (nodesOf es ≡ some f) = whole-shape (meaning es) (shaped es 0 false h) in
     (w .0, w .1, nodes-exactly es (w .0) .0 (w .1))
 
 -- ---- and the events of nodes are in order

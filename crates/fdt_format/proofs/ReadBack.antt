@@ -14,7 +14,7 @@ use Rattle.fdt_format.specs.Events.{Event, events, nodesOf}
 use Rattle.fdt_header.specs.Header.{headerSize, structureStart, reservationBytes, headerBytes}
 use Rattle.fdt_format.specs.Tokens.{finalBytes}
 use Rattle.fdt_format.specs.Reading.{areasOf, described, readReservations, readNodes, reading}
-use Rattle.fdt_format.specs.Blob.{namesOf, structureBytes, numbersOf, blobFrom, blobOf, AllPlain, AllTold, WellFormed}
+use Rattle.fdt_format.specs.Blob.{namesOf, structureBytes, numbersOf, blobFrom, blobOf, AllPlain, AllReservable, WellFormed}
 use Rattle.fdt_header.proofs.HeaderBytes.{length-header}
 use Rattle.fdt_format.proofs.HeaderRead.{areasFrom, areas-read, header-good}
 use Rattle.fdt_format.proofs.Nodes.{Accepted, nodes-events, accepted-events}
@@ -74,14 +74,14 @@ module _ (rs : List Reservation) (boot : ℕ) (es : List Event) where
       held = structure-held;
     }
 
-    reserved-read : AllTold rs → readReservations (blobFrom rs boot es) areas ≡ some rs
+    reserved-read : AllReservable rs → readReservations (blobFrom rs boot es) areas ≡ some rs
     unfolding readReservations areasFrom areas
     reserved-read t =
         reservations-read (blobFrom rs boot es) rs ((length (blobFrom rs boot es) - headerSize) / 16) headerSize t (omega (arith, length-from))
         (bytes-left (reservationBytes (numbersOf rs)) behind rest-held)
 
     -- the blob of reservations, a boot number and events in order is read as these, with the nodes of the events
-    pub read-from : AllTold rs → AllPlain es → Accepted 0 false es → reading (blobFrom rs boot es) ≡ described boot (some rs) (nodesOf es)
+    pub read-from : AllReservable rs → AllPlain es → Accepted 0 false es → reading (blobFrom rs boot es) ≡ described boot (some rs) (nodesOf es)
     unfolding reading areasFrom areas
     read-from t p c =
         let b = blobFrom rs boot es in
@@ -103,7 +103,7 @@ pub read-blob : (d : Description) → WellFormed d → reading (blobOf d) ≡ so
 unfolding blobOf described
 read-blob d w =
     let es = events (d .nodes) [] in
-    read-from (d .reservations) (d .boot) es (w .boot) (w .size) (w .told) (w .names) (accepted-events (d .nodes))
+    read-from (d .reservations) (d .boot) es (w .boot) (w .size) (w .reservable) (w .names) (accepted-events (d .nodes))
     ∙ ap (described (d .boot) (some (d .reservations))) (nodes-events (d .nodes))
 
 -- two descriptions have the same blob exactly when they are the same

@@ -12,16 +12,16 @@ use Rattle.fdt_bytes.specs.BigEndian.{bigEndian, wideAt, cellBytes}
 use Rattle.fdt_bytes.specs.Padding.{zeros}
 use Rattle.fdt_bytes.proofs.BigEndian.{length-cells, cells-append}
 use Rattle.fdt_bytes.proofs.Padding.{length-zeros}
-use Rattle.fdt_format.specs.Description.{Reservation, reserved}
+use Rattle.fdt_format.specs.Description.{Reservation, reservation}
 use Rattle.fdt_header.specs.Header.{reservationBytes}
-use Rattle.fdt_format.specs.Reading.{reservation, reservationsAt}
-use Rattle.fdt_format.specs.Blob.{numbersOf, AllTold}
+use Rattle.fdt_format.specs.Reading.{withReservation, reservationsAt}
+use Rattle.fdt_format.specs.Blob.{numbersOf, AllReservable}
 use Rattle.fdt_format.proofs.Words.{BytesAt, bytes-left, bytes-right, cell-at}
 
 length-numbers : (rs : List Reservation) → length (numbersOf rs) ≡ 2 * length rs
 unfolding numbersOf
 length-numbers [] = refl
-length-numbers (reserved address size ∷ rs) = omega (arith, length-numbers rs)
+length-numbers (reservation address size ∷ rs) = omega (arith, length-numbers rs)
 
 -- 16 bytes each, and 16 zeros
 pub length-reservations : (rs : List Reservation) → length (reservationBytes (numbersOf rs)) ≡ 16 * length rs + 16
@@ -58,15 +58,15 @@ module _ (b : List ℕ) where
     cell-at 8 (address ∷ size ∷ more) 1 (at + 8) h (omega arith) (omega arith) (omega arith),
   )
 
-  pub reservations-read : (rs : List Reservation) (k at : ℕ) → AllTold rs → length rs < k → BytesAt b at (reservationBytes (numbersOf rs)) → reservationsAt b k at ≡ some rs
-  unfolding reservationsAt reservation AllTold numbersOf
+  pub reservations-read : (rs : List Reservation) (k at : ℕ) → AllReservable rs → length rs < k → BytesAt b at (reservationBytes (numbersOf rs)) → reservationsAt b k at ≡ some rs
+  unfolding reservationsAt withReservation AllReservable numbersOf
   reservations-read rs zero at t l h = absurd (omega arith)
   reservations-read [] (suc k) at t l h =
       let p = pair-at 0 0 at [] (omega arith) (omega arith) (subst (BytesAt b at) end-pair h) in
       rw (p .0, p .1)
-  reservations-read (reserved address size ∷ rs) (suc k) at t l h =
+  reservations-read (reservation address size ∷ rs) (suc k) at t l h =
       let two : List ℕ = address ∷ size ∷ [] in
       let g = subst (BytesAt b at) (next-pair address size (numbersOf rs)) h in
       let p = pair-at address size at [] (t .0) (t .1) (bytes-left (cellBytes 8 two) (reservationBytes (numbersOf rs)) g) in
       let others = bytes-right (cellBytes 8 two) (reservationBytes (numbersOf rs)) g (at + 16) (ap (λ (n : ℕ). at + n) (length-cells 8 two)) in
-      rw (p .0, p .1, no-end address size (t .2)) (ap (reservation address size) (reservations-read rs k (at + 16) (t .3) (omega arith) others))
+      rw (p .0, p .1, no-end address size (t .2)) (ap (withReservation address size) (reservations-read rs k (at + 16) (t .3) (omega arith) others))

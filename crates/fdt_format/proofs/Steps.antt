@@ -58,28 +58,28 @@ zero-ge b (suc k) at =
 -- ---- a whole property at a place
 
 module _ (b : List ℕ) (end at : ℕ) where
-  pub record Whole : Type 0 where
+  pub record WholeProperty : Type 0 where
     pub words : 12 ≤ end - at
     pub token : wordAt b at ≡ propertyToken
     pub ends : propertySize (wordAt b (at + 4)) ≤ end - at
 
-  pub whole-is : wholeAt b end at ≡ true → Whole
+  pub whole-is : wholeAt b end at ≡ true → WholeProperty
   unfolding wholeAt
   whole-is e = go (leb 12 (end - at)) (eqb (wordAt b at) propertyToken) (leb (propertySize (wordAt b (at + 4))) (end - at)) refl refl refl e
     where
-      go : (x y z : Bool) → leb 12 (end - at) ≡ x → eqb (wordAt b at) propertyToken ≡ y → leb (propertySize (wordAt b (at + 4))) (end - at) ≡ z → (x && y && z) ≡ true → Whole
+      go : (x y z : Bool) → leb 12 (end - at) ≡ x → eqb (wordAt b at) propertyToken ≡ y → leb (propertySize (wordAt b (at + 4))) (end - at) ≡ z → (x && y && z) ≡ true → WholeProperty
       go true true true p q r e = record { words = leb-true _ _ p; token = eqb-true _ _ q; ends = leb-true _ _ r }
       go true true false p q r e = absurd (false≢true e)
       go true false z p q r e = absurd (false≢true e)
       go false y z p q r e = absurd (false≢true e)
 
-  pub is-whole : Whole → wholeAt b end at ≡ true
+  pub is-whole : WholeProperty → wholeAt b end at ≡ true
   unfolding wholeAt
   is-whole w = rw (le-leb _ _ (w .words), eq-eqb _ _ (w .token), le-leb _ _ (w .ends))
 
   -- a size of 0 means that no whole property is there, and any other that one is
   by-size : (t : Bool) → wholeAt b end at ≡ t → {size : ℕ} → size ≡ cond t (propertySize (wordAt b (at + 4))) 0
-      → (size ≡ 0 → wholeAt b end at ≡ false) × ((size ≡ 0 → ⊥) → Whole × (size ≡ propertySize (wordAt b (at + 4))))
+      → (size ≡ 0 → wholeAt b end at ≡ false) × ((size ≡ 0 → ⊥) → WholeProperty × (size ≡ propertySize (wordAt b (at + 4))))
   by-size true e s = (λ z. absurd (omega (arith, s)), λ n. (whole-is e, s))
   by-size false e s = (λ z. e, λ n. absurd (n s))
 
@@ -88,7 +88,7 @@ module _ (b : List ℕ) (end at : ℕ) where
     unfolding sizeAt
     size-none = by-size (wholeAt b end at) refl s .0
 
-    pub size-whole : (size ≡ 0 → ⊥) → Whole × (size ≡ propertySize (wordAt b (at + 4)))
+    pub size-whole : (size ≡ 0 → ⊥) → WholeProperty × (size ≡ propertySize (wordAt b (at + 4)))
     unfolding sizeAt
     size-whole = by-size (wholeAt b end at) refl s .1
 

@@ -9,7 +9,7 @@ use lib.ListN.{length}
 use Rattle.fdt_strings.specs.declared.Found.{Found}
 use Rattle.fdt_strings.specs.declared.Found.the-variants.{At, Nothing}
 use Rattle.fdt_strings.specs.Entries.{foundValues, entries, firstFrom, findString, same, joined, NoZero}
-use Rattle.fdt_strings.proofs.Entries.{eq-same, entries-joined, first-after, found-stands, Stands, no-entry, next-entry, Plain as PlainNames}
+use Rattle.fdt_strings.proofs.Entries.{eq-same, entries-joined, first-after, found-stands, Stands, no-entry, next-entry, PlainNames as PlainNames}
 use Rattle.fdt_format.specs.Description.{_≔_}
 use Rattle.fdt_format.specs.Events.{Event, begins, has, ends}
 use Rattle.fdt_format.specs.Blob.{orAtEnd, withName, namesFrom, namesOf, foundAt, offsetOf, Plain, AllPlain}

@@ -39,8 +39,8 @@ takesAfter (has p) = true
 takesAfter ends = false
 
 -- the state after it
-unfoldable pub after : State → Event → State
-after s e = record { at = s .at + eventSize e; depth = depthAfter (s .depth) e; «takes_property» = takesAfter e }
+unfoldable pub stateAfter : State → Event → State
+stateAfter s e = record { at = s .at + eventSize e; depth = depthAfter (s .depth) e; «takes_property» = takesAfter e }
 
 -- every event takes a multiple of 4 bytes
 pub size-multiple : (e : Event) → eventSize e % 4 ≡ 0
@@ -70,14 +70,14 @@ module _ (a : Areas) (names : List (List ℕ)) where
   -- the entries of events from a state on
   unfoldable pub entriesOf : State → List Event → List Entry
   entriesOf s [] = []
-  entriesOf s (e ∷ es) = entryOf s e ∷ entriesOf (after s e) es
+  entriesOf s (e ∷ es) = entryOf s e ∷ entriesOf (stateAfter s e) es
 
 -- ---- a token is read as its event
 
 -- an event is read at a state: the step is its entry, and the entry means the event
 pub record Read (b : List ℕ) (a : Areas) (names : List (List ℕ)) (s : State) (e : Event) : Type 0 where
-  pub step : stepAt b a s ≡ step.Entry (entryOf a names s e) (after s e)
-  pub told : eventAt b (entryOf a names s e) ≡ e
+  pub step : stepAt b a s ≡ step.Entry (entryOf a names s e) (stateAfter s e)
+  pub event-is : eventAt b (entryOf a names s e) ≡ e
 
 -- states at the same place
 same-place : {t : Entry} {depth : ℕ} {room : Bool} {i j : ℕ} → i ≡ j → step.Entry t (record { at = i; depth = depth; «takes_property» = room }) ≡ step.Entry t (record { at = j; depth = depth; «takes_property» = room })
@@ -91,7 +91,7 @@ pub record Named (b : List ℕ) (a : Areas) (names : List (List ℕ)) (name : Li
 
 module _ (b : List ℕ) (a : Areas) (names : List (List ℕ)) (s : State) where
   pub begin-read : (name : List ℕ) → s .at % 4 ≡ 0 → BytesAt b (s .at) (beginBytes name) → s .at + eventSize (begins name) ≤ a .«structure_end» → NoZero name → Read b a names s (begins name)
-  unfolding beginBytes padded entry stepAt beginAt entryOf after depthAfter takesAfter eventSize roundUp
+  unfolding beginBytes padded entry stepAt beginAt entryOf stateAfter depthAfter takesAfter eventSize roundUp
   begin-read name m h le z =
       let w : wordAt b (s .at) ≡ beginToken = word-at 1 (bytes-left (bigEndian 4 1) (padded 4 (entry name)) h) (omega arith) in
       let n : BytesAt b (s .at + 4) (entry name) =
@@ -105,21 +105,21 @@ module _ (b : List ℕ) (a : Areas) (names : List (List ℕ)) (s : State) where
         step =
             rw (le-ltb _ _ t₁, w, f, lt-leb _ _ t₂, le-ltb _ _ t₃)
             (same-place (round-from (s .at) (length name) m));
-        told = event-begins b (entryOf a names s (begins name)) refl ∙ ap begins (name-read z n);
+        event-is = event-begins b (entryOf a names s (begins name)) refl ∙ ap begins (name-read z n);
       }
 
   pub end-read : BytesAt b (s .at) endBytes → s .at + eventSize ends ≤ a .«structure_end» → 0 < s .depth → Read b a names s ends
-  unfolding endBytes stepAt endAt entryOf after depthAfter takesAfter eventSize
+  unfolding endBytes stepAt endAt entryOf stateAfter depthAfter takesAfter eventSize
   end-read h le d =
       let w : wordAt b (s .at) ≡ endToken = word-at 2 h (omega arith) in
       let t₁ : 4 ≤ a .«structure_end» - s .at = omega arith in
       record {
         step = rw (le-ltb _ _ t₁, w, ne-eqb (s .depth) 0 (λ z. omega arith));
-        told = event-ends b (entryOf a names s ends) refl;
+        event-is = event-ends b (entryOf a names s ends) refl;
       }
 
   pub property-read : (name value : List ℕ) → length b < 2 ^ 32 → BytesAt b (s .at) (propertyBytes (offsetOf names name) value) → s .at + eventSize (has (name ≔ value)) ≤ a .«structure_end» → s .«takes_property» ≡ true → Named b a names name → Read b a names s (has (name ≔ value))
-  unfolding propertyBytes padded entry stepAt propertyAt entryOf after depthAfter takesAfter eventSize
+  unfolding propertyBytes padded entry stepAt propertyAt entryOf stateAfter depthAfter takesAfter eventSize
   property-read name value small h le room n =
       let offset = offsetOf names name in
       let words : List ℕ = propertyToken ∷ length value ∷ offset ∷ [] in
@@ -140,7 +140,7 @@ module _ (b : List ℕ) (a : Areas) (names : List (List ℕ)) (s : State) where
       record {
         step =
             rw (le-ltb _ _ t₁, w, room, whole, w₁, w₂, f, lt-leb _ _ k);
-        told = event-has b (entryOf a names s (has (name ≔ value))) refl ∙ rw (name-read (n .plain) (n .held), bytes-take v (length value) refl);
+        event-is = event-has b (entryOf a names s (has (name ≔ value))) refl ∙ rw (name-read (n .plain) (n .held), bytes-take v (length value) refl);
       }
 
   pub final-read : (strings : List ℕ) → BytesAt b (s .at) (finalBytes strings) → s .at + 4 ≡ a .«structure_end» → s .depth ≡ 0 → stepAt b a s ≡ step.Final

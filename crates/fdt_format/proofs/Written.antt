@@ -8,20 +8,20 @@ use lib.ListN.{length}
 use Rattle.fdt_bytes.specs.BigEndian.{bigEndian}
 use Rattle.fdt_bytes.proofs.BigEndian.{length-bigEndian}
 use Rattle.fdt_strings.specs.Entries.{entry, joined}
-use Rattle.fdt_strings.proofs.Entries.{Stands, stands-fits, length-entry, no-entry, Plain as PlainNames}
+use Rattle.fdt_strings.proofs.Entries.{Stands, stands-fits, length-entry, no-entry, PlainNames as PlainNames}
 use Rattle.fdt_format.specs.declared.Areas.{Areas}
 use Rattle.fdt_format.specs.declared.State.{State}
 use Rattle.fdt_format.specs.declared.Step.{Step}
 use Rattle.fdt_format.specs.Description.{_≔_}
 use Rattle.fdt_format.specs.Events.{Event, begins, has, ends, nodesOf}
 use Rattle.fdt_format.specs.Tokens.{finalToken, finalBytes}
-use Rattle.fdt_format.specs.Walk.{good, more, follow, walk, start}
+use Rattle.fdt_format.specs.Walk.{good, more, follow, walk, walkStart}
 use Rattle.fdt_format.specs.Reading.{eventAt, walkNodes, readNodes}
 use Rattle.fdt_format.specs.Blob.{namesOf, offsetOf, eventBytes, structureBytes, Plain, AllPlain, eventSize, eventsSize}
 use Rattle.fdt_format.proofs.Nodes.{Accepted}
 use Rattle.fdt_format.proofs.Strings.{Has, AllHas, has-stands, names-plain, names-have}
 use Rattle.fdt_format.proofs.Structure.{event-size, structure-size}
-use Rattle.fdt_format.proofs.TokensRead.{depthAfter, takesAfter, after, size-multiple, entryOf, entriesOf, Read, Named, begin-read, end-read, property-read, final-read}
+use Rattle.fdt_format.proofs.TokensRead.{depthAfter, takesAfter, stateAfter, size-multiple, entryOf, entriesOf, Read, Named, begin-read, end-read, property-read, final-read}
 use Rattle.fdt_format.proofs.Walks.{walk-step}
 use Rattle.fdt_format.proofs.Words.{BytesAt, bytes-left, bytes-right}
 
@@ -48,7 +48,7 @@ pub record Stood (b : List ℕ) (a : Areas) (names : List (List ℕ)) (strings :
 -- a walk from a state finds the entries of events, and the entries mean the events
 pub record Walked (b : List ℕ) (a : Areas) (names : List (List ℕ)) (s : State) (es : List Event) : Type 0 where
   pub walked : walk b a s ≡ good (entriesOf a names s es)
-  pub told : map (eventAt b) (entriesOf a names s es) ≡ es
+  pub events-are : map (eventAt b) (entriesOf a names s es) ≡ es
 
 module _ {b : List ℕ} {a : Areas} {names : List (List ℕ)} {strings : List ℕ} {s : State} {e : Event} {es : List Event} (h : Stood b a names strings s (e ∷ es)) where
   rest : BytesAt b (s .at) (eventBytes names e ++ (structureBytes names es ++ finalBytes strings))
@@ -62,21 +62,21 @@ module _ {b : List ℕ} {a : Areas} {names : List (List ℕ)} {strings : List �
   unfolding eventsSize
   first-fits = omega (arith, h .ended)
 
-  stood-on : Stood b a names strings (after s e) es
-  unfolding after eventsSize
+  stood-on : Stood b a names strings (stateAfter s e) es
+  unfolding stateAfter eventsSize
   stood-on = record {
     multiple = omega (arith, h .multiple, size-multiple e);
     ended = omega (arith, h .ended);
     held = bytes-right (eventBytes names e) (structureBytes names es ++ finalBytes strings) rest (s .at + eventSize e) (ap (λ (k : ℕ). s .at + k) (event-size names e));
   }
 
-  walked-on : Read b a names s e → Walked b a names (after s e) es → Walked b a names s (e ∷ es)
+  walked-on : Read b a names s e → Walked b a names (stateAfter s e) es → Walked b a names s (e ∷ es)
   unfolding entriesOf
   walked-on r w = record {
     walked =
         walk-step b a s (omega (arith, first-fits)) ∙ ap (λ (x : Step). follow x (walk b a)) (r .step)
         ∙ ap (more (entryOf a names s e)) (w .walked);
-    told = rw (r .told, w .told);
+    events-are = rw (r .event-is, w .events-are);
   }
 
 -- If a blob holds the strings of plain names, the walk over the events that use them finds each.
@@ -84,27 +84,27 @@ module _ (b : List ℕ) (a : Areas) (names : List (List ℕ)) (strings : List �
   pub walk-written :
       (es : List Event) (depth : ℕ) (ended : Bool) (s : State) → Accepted depth ended es → s .depth ≡ depth → (ended ≡ false → 0 < depth → s .«takes_property» ≡ true) →
       AllPlain es → AllHas names es → Stood b a names strings s es → Walked b a names s es
-  unfolding Accepted AllPlain Plain AllHas eventBytes after depthAfter takesAfter structureBytes entriesOf eventsSize
+  unfolding Accepted AllPlain Plain AllHas eventBytes stateAfter depthAfter takesAfter structureBytes entriesOf eventsSize
   walk-written [] depth ended s c d r p f h = record {
     walked = walk-step b a s (omega (arith, h .ended)) ∙ ap (λ (x : Step). follow x (walk b a)) (final-read b a names s strings (h .held) (omega (arith, h .ended)) (d ∙ c));
-    told = refl;
+    events-are = refl;
   }
   walk-written (begins name ∷ es) depth ended s c d r p f h =
       let here = begin-read b a names s name (h .multiple) (first-held h) (first-fits h) (p .0) in
       walked-on h here
-      (walk-written es (suc depth) false (after s (begins name)) c (omega arith) (λ _ _. refl) (p .1) f (stood-on h))
+      (walk-written es (suc depth) false (stateAfter s (begins name)) c (omega arith) (λ _ _. refl) (p .1) f (stood-on h))
   walk-written (ends ∷ es) zero ended s c d r p f h = absurd c
   walk-written (ends ∷ es) (suc depth) ended s c d r p f h =
       let here = end-read b a names s (first-held h) (first-fits h) (omega arith) in
       walked-on h here
-      (walk-written es depth true (after s ends) c (omega arith) (λ q _. absurd (true≢false q)) (p .1) f (stood-on h))
+      (walk-written es depth true (stateAfter s ends) c (omega arith) (λ q _. absurd (true≢false q)) (p .1) f (stood-on h))
   walk-written (has (name ≔ value) ∷ es) zero ended s c d r p f h = absurd c
   walk-written (has (name ≔ value) ∷ es) (suc depth) true s c d r p f h = absurd c
   walk-written (has (name ≔ value) ∷ es) (suc depth) false s c d r p f h =
       let e = has (name ≔ value) in
       let here = property-read b a names s name value small (first-held h) (first-fits h) (r refl (omega arith)) (every name (f .0)) in
       walked-on h here
-      (walk-written es (suc depth) false (after s e) c d (λ _ _. refl) (p .1) (f .1) (stood-on h))
+      (walk-written es (suc depth) false (stateAfter s e) c d (λ _ _. refl) (p .1) (f .1) (stood-on h))
 
 -- a blob with these areas holds the structure of events, and then the strings of their names
 pub record Laid (b : List ℕ) (a : Areas) (es : List Event) : Type 0 where
@@ -125,15 +125,15 @@ module _ (b : List ℕ) (a : Areas) (es : List Event) (l : Laid b a es) where
 
   module _ (c : Accepted 0 false es) (p : AllPlain es) where
     -- the walk finds the entries of the events
-    pub laid-walked : Walked b a (namesOf es) (start a) es
-    unfolding start namesOf
+    pub laid-walked : Walked b a (namesOf es) (walkStart a) es
+    unfolding walkStart namesOf
     laid-walked =
         let names = namesOf es in
         let every = named b a names (names-plain es p no-entry) strings-held (l .strings-end) in
-        let stood : Stood b a names (joined names) (start a) es = record { multiple = l .multiple; ended = l .structure-ends; held = l .held } in
-        walk-written b a names (joined names) (l .small) every es 0 false (start a) c refl (λ _ z. absurd (omega arith)) p (names-have [] es) stood
+        let stood : Stood b a names (joined names) (walkStart a) es = record { multiple = l .multiple; ended = l .structure-ends; held = l .held } in
+        walk-written b a names (joined names) (l .small) every es 0 false (walkStart a) c refl (λ _ z. absurd (omega arith)) p (names-have [] es) stood
 
     -- the nodes that are read are those of the events
     pub nodes-read : readNodes b a ≡ nodesOf es
     unfolding readNodes walkNodes
-    nodes-read = ap (walkNodes b) (laid-walked .walked) ∙ ap nodesOf (laid-walked .told)
+    nodes-read = ap (walkNodes b) (laid-walked .walked) ∙ ap nodesOf (laid-walked .events-are)

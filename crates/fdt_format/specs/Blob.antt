@@ -6,7 +6,7 @@ use Rattle.fdt_bytes.specs.Padding.{roundUp}
 use Rattle.fdt_strings.specs.declared.Found.{Found}
 use Rattle.fdt_strings.specs.declared.Found.the-variants.{At, Nothing}
 use Rattle.fdt_strings.specs.Entries.{foundValues, firstFrom, joined, NoZero}
-use Rattle.fdt_format.specs.Description.{_≔_, Reservation, reserved, Description}
+use Rattle.fdt_format.specs.Description.{_≔_, Reservation, reservation, Description}
 use Rattle.fdt_format.specs.Events.{Event, begins, has, ends, events}
 use Rattle.fdt_header.specs.Header.{structureStart, reservationBytes, headerBytes}
 use Rattle.fdt_format.specs.Tokens.{beginBytes, propertyBytes, propertySize, endBytes, finalBytes}
@@ -64,7 +64,7 @@ eventsSize (e ∷ es) = eventSize e + eventsSize es
 -- reservations as numbers: address and size in turn
 unfoldable pub numbersOf : List Reservation → List ℕ
 numbersOf [] = []
-numbersOf (reserved address size ∷ rs) = address ∷ size ∷ numbersOf rs
+numbersOf (reservation address size ∷ rs) = address ∷ size ∷ numbersOf rs
 
 -- the blob of reservations, a boot number and events
 unfoldable pub blobFrom : List Reservation → ℕ → List Event → List ℕ
@@ -90,13 +90,13 @@ AllPlain [] = Unit {0}
 AllPlain (e ∷ es) = Plain e × AllPlain es
 
 -- reservations of 64-bit numbers, none with both numbers 0
-unfoldable pub AllTold : List Reservation → Type 0
-AllTold [] = Unit {0}
-AllTold (reserved address size ∷ rs) = (address < 2 ^ 64) × (size < 2 ^ 64) × (0 < address + size) × AllTold rs
+unfoldable pub AllReservable : List Reservation → Type 0
+AllReservable [] = Unit {0}
+AllReservable (reservation address size ∷ rs) = (address < 2 ^ 64) × (size < 2 ^ 64) × (0 < address + size) × AllReservable rs
 
 -- what the format can hold: such names and reservations, and a boot number and a total size of 32 bits
 pub record WellFormed (d : Description) : Type 0 where
   pub names : AllPlain (events (d .nodes) [])
-  pub told : AllTold (d .reservations)
+  pub reservable : AllReservable (d .reservations)
   pub boot : d .boot < 2 ^ 32
   pub size : length (blobOf d) < 2 ^ 32

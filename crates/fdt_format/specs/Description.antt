@@ -14,7 +14,7 @@ pub data Nodes : Type 0 where
 
 -- reserved memory: its address and its size
 pub data Reservation : Type 0 where
-  reserved : (address : ℕ) → (size : ℕ) → Reservation
+  reservation : (address : ℕ) → (size : ℕ) → Reservation
 
 -- what a blob says: the reservations in order, the boot processor's number, and the nodes in order
 pub record Description : Type 0 where

@@ -23,31 +23,31 @@ events (node name properties children later) others =
 
 -- what the last events of a structure mean: the properties and nodes that they add to the node open before them,
 -- and for each node around it the nodes after it; or that they are out of place
-pub data Told : Type 0 where
-  misplaced : Told
-  told : List Property → Nodes → List Nodes → Told
+pub data Meaning : Type 0 where
+  misplaced : Meaning
+  means : List Property → Nodes → List Nodes → Meaning
 
 -- with one more event in front
-unfoldable pub inFront : Event → Told → Told
+unfoldable pub inFront : Event → Meaning → Meaning
 inFront e misplaced = misplaced
-inFront (has p) (told ps nodes around) = told (p ∷ ps) nodes around
-inFront ends (told [] nodes around) = told [] no-more (nodes ∷ around)
-inFront ends (told (p ∷ ps) nodes around) = misplaced
-inFront (begins name) (told ps nodes []) = misplaced
-inFront (begins name) (told ps nodes (later ∷ around)) = told [] (node name ps nodes later) around
+inFront (has p) (means ps nodes around) = means (p ∷ ps) nodes around
+inFront ends (means [] nodes around) = means [] no-more (nodes ∷ around)
+inFront ends (means (p ∷ ps) nodes around) = misplaced
+inFront (begins name) (means ps nodes []) = misplaced
+inFront (begins name) (means ps nodes (later ∷ around)) = means [] (node name ps nodes later) around
 
 -- what events mean
-unfoldable pub tell : List Event → Told
-tell [] = told [] no-more []
-tell (e ∷ es) = inFront e (tell es)
+unfoldable pub meaning : List Event → Meaning
+meaning [] = means [] no-more []
+meaning (e ∷ es) = inFront e (meaning es)
 
 -- the nodes, if every node has ended and no property is outside a node
-unfoldable pub whole : Told → Option Nodes
+unfoldable pub whole : Meaning → Option Nodes
 whole misplaced = none
-whole (told [] nodes []) = some nodes
-whole (told [] nodes (later ∷ around)) = none
-whole (told (p ∷ ps) nodes around) = none
+whole (means [] nodes []) = some nodes
+whole (means [] nodes (later ∷ around)) = none
+whole (means (p ∷ ps) nodes around) = none
 
 -- the nodes of events: those whose events they are (`nodes-exactly`)
 unfoldable pub nodesOf : List Event → Option Nodes
-nodesOf es = whole (tell es)
+nodesOf es = whole (meaning es)

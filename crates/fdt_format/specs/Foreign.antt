@@ -11,21 +11,21 @@ use Rattle.fdt_format.specs.declared.Step.{Step}
 use Rattle.fdt_format.specs.declared.Step.the-variants as step
 use Rattle.fdt_format.specs.declared.Unreadable.{Unreadable}
 use Rattle.fdt_format.specs.declared.Unreadable.the-variants.{Structure, NameOffset}
-use Rattle.fdt_format.specs.Description.{_≔_, Nodes, no-more, node, reserved, Description}
+use Rattle.fdt_format.specs.Description.{_≔_, Nodes, no-more, node, reservation, Description}
 use Rattle.fdt_format.specs.Step.{stepAt}
-use Rattle.fdt_format.specs.Walk.{bad, walk, start}
+use Rattle.fdt_format.specs.Walk.{bad, walk, walkStart}
 use Rattle.fdt_format.specs.Reading.{areasOf, goodWords, reading}
 
 infix 20 _reads_ _stops_ _good-words_
-pub data Case : Type 0 where
+pub data ForeignCase : Type 0 where
   -- a blob, and what it is read as
-  _reads_ : List ℕ → Option Description → Case
+  _reads_ : List ℕ → Option Description → ForeignCase
   -- a blob that is not read, and the refusal that stops the walk through its structure
-  _stops_ : List ℕ → Unreadable → Case
+  _stops_ : List ℕ → Unreadable → ForeignCase
   -- a blob, and whether its length, magic, total size and versions are right
-  _good-words_ : List ℕ → Bool → Case
+  _good-words_ : List ℕ → Bool → ForeignCase
   -- the words of a structure, the place where it ends, and its first token
-  token : List ℕ → ℕ → Step → Case
+  token : List ℕ → ℕ → Step → ForeignCase
 
 -- the first token of a structure that ends at a place; one node is open, and the strings are the same words
 unfoldable pub firstToken : List ℕ → ℕ → Step
@@ -35,16 +35,16 @@ firstToken words end =
     (record { at = 0; depth = 1; «takes_property» = true })
 
 -- every case of the table holds
-unfoldable pub AllRead : List Case → Type 0
+unfoldable pub AllRead : List ForeignCase → Type 0
 AllRead [] = Unit {0}
 AllRead ((bytes reads said) ∷ cases) = (reading bytes ≡ said) × AllRead cases
-AllRead ((bytes stops refusal) ∷ cases) = (reading bytes ≡ none) × (walk bytes (areasOf bytes) (start (areasOf bytes)) ≡ bad refusal) × AllRead cases
+AllRead ((bytes stops refusal) ∷ cases) = (reading bytes ≡ none) × (walk bytes (areasOf bytes) (walkStart (areasOf bytes)) ≡ bad refusal) × AllRead cases
 AllRead ((bytes good-words right) ∷ cases) = (goodWords bytes ≡ right) × AllRead cases
 AllRead (token words end said ∷ cases) = (firstToken words end ≡ said) × AllRead cases
 
 -- nodes alone, without reservations and with boot number 0
-unfoldable pub alone : Nodes → Option Description
-alone nodes = some (record { reservations = []; boot = 0; nodes = nodes })
+unfoldable pub justNodes : Nodes → Option Description
+justNodes nodes = some (record { reservations = []; boot = 0; nodes = nodes })
 
 -- document 01's empty blob with one of its 15 words altered
 unfoldable pub altered : ℕ → ℕ → List ℕ
@@ -93,7 +93,7 @@ tails =
 -- what it describes
 unfoldable pub tailsSay : Description
 tailsSay = record {
-  reservations = reserved 4096 4096 ∷ reserved 0 1 ∷ [];
+  reservations = reservation 4096 4096 ∷ reservation 0 1 ∷ [];
   boot = 3;
   nodes =
       node []
@@ -110,16 +110,16 @@ overlap =
     cellBytes 4 (0xd00dfeed ∷ 0x54 ∷ 0x38 ∷ 0 ∷ 0x28 ∷ 0x11 ∷ 0x10 ∷ 0 ∷ 0x54 ∷ 0x1c ∷ 0 ∷ 0 ∷ 0 ∷ 0 ∷ 1 ∷ 0x72656700 ∷ 3 ∷ 0 ∷ 0x3c ∷ 2 ∷ 9 ∷ [])
 
 -- the table
-unfoldable pub foreign : List Case
+unfoldable pub foreign : List ForeignCase
 foreign =
     -- what is read
-    (altered 14 9 reads alone no-more)
-    ∷ (ninetyTwo reads alone (node [] (((114 ∷ 101 ∷ 103 ∷ []) ≔ (0 ∷ 0 ∷ 0 ∷ 1 ∷ [])) ∷ []) no-more no-more))
+    (altered 14 9 reads justNodes no-more)
+    ∷ (ninetyTwo reads justNodes (node [] (((114 ∷ 101 ∷ 103 ∷ []) ≔ (0 ∷ 0 ∷ 0 ∷ 1 ∷ [])) ∷ []) no-more no-more))
     ∷ (tails reads some tailsSay)
-    ∷ (overlap reads alone (node (114 ∷ 101 ∷ 103 ∷ []) (((114 ∷ 101 ∷ 103 ∷ []) ≔ []) ∷ []) no-more no-more))
-    ∷ (only (1 ∷ 0 ∷ 2 ∷ 1 ∷ 0x62000000 ∷ 2 ∷ 9 ∷ []) [] reads alone (node [] [] no-more (node (98 ∷ []) [] no-more no-more)))
-    ∷ (only (nested 65 (9 ∷ [])) [] reads alone (nest 65))
-    ∷ (only (1 ∷ 0 ∷ 3 ∷ 0 ∷ 0 ∷ 1 ∷ 0 ∷ 2 ∷ 2 ∷ 9 ∷ []) stringA reads alone (node [] (((97 ∷ []) ≔ []) ∷ []) (node [] [] no-more no-more) no-more))
+    ∷ (overlap reads justNodes (node (114 ∷ 101 ∷ 103 ∷ []) (((114 ∷ 101 ∷ 103 ∷ []) ≔ []) ∷ []) no-more no-more))
+    ∷ (only (1 ∷ 0 ∷ 2 ∷ 1 ∷ 0x62000000 ∷ 2 ∷ 9 ∷ []) [] reads justNodes (node [] [] no-more (node (98 ∷ []) [] no-more no-more)))
+    ∷ (only (nested 65 (9 ∷ [])) [] reads justNodes (nest 65))
+    ∷ (only (1 ∷ 0 ∷ 3 ∷ 0 ∷ 0 ∷ 1 ∷ 0 ∷ 2 ∷ 2 ∷ 9 ∷ []) stringA reads justNodes (node [] (((97 ∷ []) ≔ []) ∷ []) (node [] [] no-more no-more) no-more))
     -- at least 40 bytes (a shorter blob would not be read anyway: these words leave no room for an all-zero pair)
     ∷ (cellBytes 4 (0xd00dfeed ∷ 0x1c ∷ 0 ∷ 0 ∷ 0 ∷ 0x11 ∷ 0x10 ∷ []) good-words false)
     -- magic, total size, versions

@@ -8,11 +8,11 @@ use lib.ListN.{length, take, drop}
 use Rattle.fdt_bytes.specs.BigEndian.{wordAt, wideAt}
 use Rattle.fdt_format.specs.declared.Areas.{Areas}
 use Rattle.fdt_format.specs.declared.Entry.{Entry}
-use Rattle.fdt_format.specs.Description.{_≔_, Nodes, Reservation, reserved, Description}
+use Rattle.fdt_format.specs.Description.{_≔_, Nodes, Reservation, reservation, Description}
 use Rattle.fdt_format.specs.Events.{Event, begins, has, ends, nodesOf}
 use Rattle.fdt_header.specs.Header.{magic, version, lastCompatible, headerSize}
 use Rattle.fdt_format.specs.Tokens.{beginToken, endToken}
-use Rattle.fdt_format.specs.Walk.{Walk, bad, good, walk, start}
+use Rattle.fdt_format.specs.Walk.{Walk, bad, good, walk, walkStart}
 
 -- the areas that the header names, and the boot number
 unfoldable pub areasOf : List ℕ → Areas
@@ -48,16 +48,16 @@ unfoldable pub goodHeader : List ℕ → Bool
 goodHeader b = goodWords b && goodAreas (areasOf b) (length b)
 
 -- a reservation in front of others
-unfoldable pub reservation : ℕ → ℕ → Option (List Reservation) → Option (List Reservation)
-reservation address size none = none
-reservation address size (some rs) = some (reserved address size ∷ rs)
+unfoldable pub withReservation : ℕ → ℕ → Option (List Reservation) → Option (List Reservation)
+withReservation address size none = none
+withReservation address size (some rs) = some (reservation address size ∷ rs)
 
 -- the reservations from a place on, up to the first all-zero pair, which must be one of the next k pairs
 unfoldable pub reservationsAt : List ℕ → ℕ → ℕ → Option (List Reservation)
 reservationsAt b zero at = none
 reservationsAt b (suc k) at =
     cond (eqb (wideAt b at) 0 && eqb (wideAt b (at + 8)) 0) (some [])
-    (reservation (wideAt b at) (wideAt b (at + 8)) (reservationsAt b k (at + 16)))
+    (withReservation (wideAt b at) (wideAt b (at + 8)) (reservationsAt b k (at + 16)))
 
 -- the bytes before the first 0
 unfoldable pub untilZero : List ℕ → List ℕ
@@ -92,7 +92,7 @@ readReservations b a = reservationsAt b ((length b - a .reservations) / 16) (a .
 
 -- the nodes of a blob
 unfoldable pub readNodes : List ℕ → Areas → Option Nodes
-readNodes b a = walkNodes b (walk b a (start a))
+readNodes b a = walkNodes b (walk b a (walkStart a))
 
 -- the reading
 unfoldable pub reading : List ℕ → Option Description

@@ -37,5 +37,5 @@ unfoldable pub walk : List ℕ → Areas → State → Walk
 walk b a s = steps (stepAt b a) (suc (a .«structure_end» - s .at)) s
 
 -- where a walk begins: no node is open, and no property may come here
-unfoldable pub start : Areas → State
-start a = record { at = a .structure; depth = 0; «takes_property» = false }
+unfoldable pub walkStart : Areas → State
+walkStart a = record { at = a .structure; depth = 0; «takes_property» = false }

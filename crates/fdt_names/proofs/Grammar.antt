@@ -8,7 +8,7 @@ use mathlib.Core.Logic.{_⊎_, inl, inr, _↔_}
 use lib.Dec.{leb, leb·zero, leb·suc-zero, leb·suc-suc, eqb·suc-zero}
 use lib.ListN.{length, drop, getD}
 use lib.Seq.{drop-cons}
-use Rattle.fdt_names.specs.Grammar.{Grammar, nothing, fromTo, _then_, _or_, all, inTwo, matches}
+use Rattle.fdt_names.specs.Grammar.{Grammar, empty, fromTo, _then_, _or_, all, inTwo, matches}
 
 -- s in two parts: the first passes p, and the rest passes q
 pub record Cut (p q : List ℕ → Bool) (s : List ℕ) : Type 0 where
@@ -93,6 +93,6 @@ module _ (class : ℕ → Bool) (g : Grammar) where
       simp (leb·zero, leb·suc-suc, and-swap (class b))
       (ap (λ t. matches g (b ∷ s) || t) (inTwo-and (class b) (λ front. leb (length front) m && all class front) (matches g) s))
 
-  pub one-then : (b : ℕ) (s : List ℕ) → matches (nothing or fromTo 1 1 class then g) (b ∷ s) ≡ (class b && matches g s)
+  pub one-then : (b : ℕ) (s : List ℕ) → matches (empty or fromTo 1 1 class then g) (b ∷ s) ≡ (class b && matches g s)
   unfolding matches
   one-then b s = simp eqb·suc-zero (first-then 0 0 b s ∙ ap (λ t. class b && t) (none-then s))

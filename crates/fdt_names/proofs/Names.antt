@@ -11,7 +11,7 @@ use lib.ListN.{length, getD, take, drop}
 use lib.Seq.{take-length}
 use borrow.Author.Tests.{eqb-true}
 use Rattle.bytes.specs.Bytes.{indexAfter, indexOf, slice}
-use Rattle.fdt_names.specs.Grammar.{Grammar, nothing, fromTo, any, _then_, _or_, all, inTwo, matches}
+use Rattle.fdt_names.specs.Grammar.{Grammar, empty, fromTo, any, _then_, _or_, all, inTwo, matches}
 use Rattle.fdt_names.specs.Names.{is, oneOf, letter, digit, nameByte, nodeByte, nodeName, unitAddress, hasZero}
 use Rattle.fdt_names.proofs.Grammar.{and-swap, none-then, more-then, one-then}
 
@@ -44,23 +44,23 @@ has-zero (b ∷ s) = sym (not-and (eqb b 0) _ ∙ rw (← has-zero s))
 
 -- what may follow the first byte of a node name, with room for m bytes before the @
 unfoldable rest : ℕ → Grammar
-rest m = fromTo 0 m nodeByte then (nothing or unitAddress)
+rest m = fromTo 0 m nodeByte then (empty or unitAddress)
 
 -- such a rest, with k bytes before its first @ or its end
 unfoldable parts : ℕ → ℕ → List ℕ → Bool
 parts m k s = leb k m && (all nodeByte (take k s) && all nodeByte (drop (suc k) s))
 
-address : (b : ℕ) (s : List ℕ) → matches (nothing or unitAddress) (b ∷ s) ≡ (is 64 b && all nodeByte s)
+address : (b : ℕ) (s : List ℕ) → matches (empty or unitAddress) (b ∷ s) ≡ (is 64 b && all nodeByte s)
 unfolding unitAddress matches
 address b s = one-then (is 64) (any nodeByte) b s
 
 rest-full : (b : ℕ) (s : List ℕ) → matches (rest 0) (b ∷ s) ≡ (is 64 b && all nodeByte s)
 unfolding rest
-rest-full b s = none-then nodeByte (nothing or unitAddress) (b ∷ s) ∙ address b s
+rest-full b s = none-then nodeByte (empty or unitAddress) (b ∷ s) ∙ address b s
 
 rest-room : (m b : ℕ) (s : List ℕ) → matches (rest (suc m)) (b ∷ s) ≡ (is 64 b && all nodeByte s || nodeByte b && matches (rest m) s)
 unfolding rest
-rest-room m b s = more-then nodeByte (nothing or unitAddress) m b s ∙ rw address
+rest-room m b s = more-then nodeByte (empty or unitAddress) m b s ∙ rw address
 
 rest-at : (m : ℕ) (s : List ℕ) → matches (rest m) (64 ∷ s) ≡ parts m 0 (64 ∷ s)
 unfolding parts all is nodeByte nameByte letter digit oneOf

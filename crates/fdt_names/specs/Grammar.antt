@@ -10,7 +10,7 @@ infixr 20 _or_
 -- a grammar; a class of bytes is a test of one byte
 pub data Grammar : Type 0 where
   -- no byte at all
-  nothing : Grammar
+  empty : Grammar
   -- from a least to a greatest number of bytes of a class
   fromTo : ℕ → ℕ → (ℕ → Bool) → Grammar
   -- any number of bytes of a class
@@ -32,7 +32,7 @@ inTwo p q (b ∷ s) = (p [] && q (b ∷ s)) || inTwo (λ front. p (b ∷ front))
 
 -- the bytes match the grammar
 unfoldable pub matches : Grammar → List ℕ → Bool
-matches nothing s = eqb (length s) 0
+matches empty s = eqb (length s) 0
 matches (fromTo least most class) s = leb least (length s) && (leb (length s) most && all class s)
 matches (any class) s = all class s
 matches (g then h) s = inTwo (matches g) (matches h) s

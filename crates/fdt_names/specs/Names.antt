@@ -3,7 +3,7 @@ use Prim.Native.Nat.{ℕ}
 use mathlib.Core.Bool.{Bool, false, not, _&&_, _||_}
 use mathlib.Core.List.{List, [], _∷_}
 use lib.Dec.{eqb, leb}
-use Rattle.fdt_names.specs.Grammar.{Grammar, nothing, fromTo, any, _then_, _or_, all}
+use Rattle.fdt_names.specs.Grammar.{Grammar, empty, fromTo, any, _then_, _or_, all}
 
 -- the byte is the given one
 unfoldable pub is : ℕ → ℕ → Bool
@@ -40,7 +40,7 @@ unitAddress = fromTo 1 1 (is 64) then any nodeByte
 
 -- Node: empty, or a letter, then at most 30 of letters, digits and ,._+- , then optionally one @ and any number of those same bytes
 unfoldable pub nodeName : Grammar
-nodeName = nothing or fromTo 1 1 letter then fromTo 0 30 nodeByte then (nothing or unitAddress)
+nodeName = empty or fromTo 1 1 letter then fromTo 0 30 nodeByte then (empty or unitAddress)
 
 -- Property: 1 to 31 of letters, digits and ,._+?#-
 unfoldable pub propertyName : Grammar

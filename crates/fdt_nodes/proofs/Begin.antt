@@ -23,7 +23,7 @@ use Rattle.fdt_record.specs.Answers.{accepts, upon}
 use Rattle.fdt_record.specs.Limits.{mostDepth}
 use Rattle.fdt_record.specs.Tests.{aloneRows, blobRows}
 use Rattle.fdt_record.proofs.Fits.{FitBlob, fit-blob, not-overfull}
-use Rattle.fdt_record.proofs.Rows.{all, Refusals, ByName, by-name, Exactly, exactly}
+use Rattle.fdt_record.proofs.Rows.{allAnswers, Refusals, ByName, by-name, Exactly, exactly}
 use Rattle.fdt_nodes.specs.declared.Begun.{Begun}
 use Rattle.fdt_nodes.specs.Begin.{beginRows, beginAnswer, begunRecord, begin}
 
@@ -52,7 +52,7 @@ put-begin name rest r₁ r₂ r₃ e₁ e₂ e₃ room =
 
 -- every answer of the rows is a refusal
 refusals : (w : Record) (lent : ℕ) (name : List ℕ) → Refusals (beginRows w lent name)
-unfolding beginRows blobRows aloneRows all Refusals accepts
+unfolding beginRows blobRows aloneRows allAnswers Refusals accepts
 refusals w lent name = refl
 
 module _ (w : Record) (lent : ℕ) (name : List ℕ) where

@@ -12,12 +12,12 @@ use Rattle.fdt_record.specs.Answers.{accepts}
 use Rattle.fdt_record.specs.Fields.{withUsedBlob, withDepth, withEnded}
 use Rattle.fdt_record.specs.Tests.{aloneRows, blobRows}
 use Rattle.fdt_record.proofs.Fits.{neither, FitBlob, fit-blob, not-overfull}
-use Rattle.fdt_record.proofs.Rows.{all, Refusals, ByName, by-name, Exactly, exactly}
+use Rattle.fdt_record.proofs.Rows.{allAnswers, Refusals, ByName, by-name, Exactly, exactly}
 use Rattle.fdt_nodes.specs.End.{endRows, endAnswer, endedRecord}
 
 -- every answer of the rows is a refusal
 refusals : (w : Record) (lent handle : ℕ) → Refusals (endRows w lent handle)
-unfolding endRows blobRows aloneRows all Refusals accepts
+unfolding endRows blobRows aloneRows allAnswers Refusals accepts
 refusals w lent handle = refl
 
 module _ (w : Record) (lent handle : ℕ) where

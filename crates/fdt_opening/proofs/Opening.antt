@@ -24,7 +24,7 @@ use Rattle.fdt_record.specs.Answers.{accepts}
 use Rattle.fdt_record.specs.Limits.{blobCeiling, mostReservations, usable}
 use Rattle.fdt_record.proofs.Answers.{upon-done, upon-refused, accepts-done}
 use Rattle.fdt_record.proofs.Fits.{usable-within, not-overfull}
-use Rattle.fdt_record.proofs.Rows.{all, Refusals, ByName, by-name, Exactly, exactly}
+use Rattle.fdt_record.proofs.Rows.{allAnswers, Refusals, ByName, by-name, Exactly, exactly}
 use Rattle.fdt_opening.specs.Opening.{count, someInvalid, openingRows, openingAnswer, openedRecord, closedRecord, openingBytes, opening, openingBlob, OpeningOutcome}
 
 module _ (numbers : List ℕ) where
@@ -46,7 +46,7 @@ module _ (numbers : List ℕ) where
 module _ (blob strings phandles : ℕ) (numbers : List ℕ) where
   -- every answer of the tests is a refusal
   pub opening-refusals : Refusals (openingRows blob strings phandles numbers)
-  unfolding openingRows all Refusals accepts
+  unfolding openingRows allAnswers Refusals accepts
   opening-refusals = refl
 
   pub opening-exactly : Exactly (openingRows blob strings phandles numbers) (openingAnswer blob strings phandles numbers)

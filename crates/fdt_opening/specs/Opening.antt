@@ -8,7 +8,7 @@ use lib.ListN.{length}
 use Rattle.fdt_bytes.specs.Padding.{zeros}
 use Rattle.fdt_bytes.specs.Splice.{splice}
 use Rattle.fdt_reserve.specs.Entry.{invalid}
-use Rattle.fdt_reserve.specs.Overlap.{start, size, some, overlapping}
+use Rattle.fdt_reserve.specs.Overlap.{start, size, someBelow, overlapping}
 use Rattle.fdt_header.specs.Header.{headerSize, structureStart, reservationBytes}
 use Rattle.fdt_record.specs.declared.Answer.{Answer}
 use Rattle.fdt_record.specs.declared.Answer.the-variants.{Misfit, TooManyReservations, InvalidMemoryReservation, OverlappingMemoryReservations, BlobRoom}
@@ -25,7 +25,7 @@ count numbers = length numbers / 2
 
 -- some reservation is refused 8
 unfoldable pub someInvalid : List ℕ → Bool
-someInvalid numbers = some (count numbers) (λ k. invalid (start numbers k) (size numbers k))
+someInvalid numbers = someBelow (count numbers) (λ k. invalid (start numbers k) (size numbers k))
 
 -- an accepted opening's record: n, the usable lengths and the used blob length 56 + 16n; all else 0, no node ended, not finished
 unfoldable pub openedRecord : ℕ → ℕ → ℕ → List ℕ → Record

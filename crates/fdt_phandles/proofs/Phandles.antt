@@ -19,7 +19,7 @@ use Rattle.fdt_record.specs.Answers.{accepts, upon}
 use Rattle.fdt_record.specs.Tests.{aloneRows, blobRows, stringsRows}
 use Rattle.fdt_record.proofs.Answers.{upon-done, left-refused}
 use Rattle.fdt_record.proofs.Fits.{FitPhandles, fit-phandles}
-use Rattle.fdt_record.proofs.Rows.{all, Refusals, ByName, by-name, Exactly, exactly}
+use Rattle.fdt_record.proofs.Rows.{allAnswers, Refusals, ByName, by-name, Exactly, exactly}
 use Rattle.fdt_phandles.specs.Phandle.{recordRows, recordAnswer, phandleTable}
 
 -- the entry that a search at i tests, and the entries after it
@@ -39,7 +39,7 @@ or-past a b e = simp e
 
 -- every answer of the rows is a refusal
 refusals : (w : Record) (lent : ℕ) (strings table : List ℕ) (value : ℕ) → Refusals (recordRows w lent strings table value)
-unfolding recordRows stringsRows blobRows aloneRows all Refusals accepts
+unfolding recordRows stringsRows blobRows aloneRows allAnswers Refusals accepts
 refusals w lent strings table value = refl
 
 -- what holds if a value may be recorded, in a table of this length

@@ -31,7 +31,7 @@ use Rattle.fdt_calls.proofs.OneOutcome.{one-called}
 use Rattle.fdt_calls.proofs.Refused.{refused-after}
 use Rattle.fdt_calls.proofs.Table.{Neither34, first-row, answers-exactly, never-given}
 use Rattle.fdt_promises.specs.Effects.{own, ownEntry, Changed, Alike}
-use Rattle.fdt_promises.specs.Run.{tells, reservationsOf, Holds, Fits, Misgiven, Run, desk, history, eventsIn, bootIn, marksIn, description, Finishes, blob, OneMore}
+use Rattle.fdt_promises.specs.Run.{tells, reservationsOf, Holds, FitDesk, Misgiven, Run, desk, history, eventsIn, bootIn, marksIn, description, Finishes, blob, OneMore}
 use Rattle.fdt_promises.specs.Examples.{emptyWords, nodeWords}
 use Rattle.fdt_promises.specs.Starred.{allHold, starred}
 use Rattle.fdt_promises.proofs.OwnBytes.{recorded-own, only-own}
@@ -91,7 +91,7 @@ pub after-every-call : (r : Run) → desk r .writer .finished ≡ false → Hold
 after-every-call = run-holds
 
 -- The record fits the run's own buffers: no test of misfit 17 finds a fault in them.
-pub never-misfit : (r : Run) → desk r .writer .finished ≡ false → Fits (desk r)
+pub never-misfit : (r : Run) → desk r .writer .finished ≡ false → FitDesk (desk r)
 never-misfit = run-fits
 
 -- So a call is refused 17 exactly when its own arguments do not fit together: an odd count of reservation numbers, or string-list

@@ -18,7 +18,7 @@ use Rattle.fdt_opening.specs.Opening.{count}
 use Rattle.fdt_opening.proofs.Opening.{OpeningFits, opened-fits}
 use Rattle.fdt_finish.proofs.Finishing.{finish-fits}
 use Rattle.fdt_calls.specs.Calls.{Call, asks, answer}
-use Rattle.fdt_promises.specs.Run.{bootOf, Holds, Fits, Misgiven, reservationsOf, withNodes, describe, Run, allAsk, opened-desk, desk, history, eventsIn, bootIn, marksIn, description, Finishes, blob}
+use Rattle.fdt_promises.specs.Run.{bootOf, Holds, FitDesk, Misgiven, reservationsOf, withNodes, describe, Run, allAsk, opened-desk, desk, history, eventsIn, bootIn, marksIn, description, Finishes, blob}
 use Rattle.fdt_promises.proofs.Ended.{count-paired, shown-bytes, nodes-told, well-formed}
 use Rattle.fdt_promises.proofs.Fitting.{open-fits, only-given}
 use Rattle.fdt_promises.proofs.Held.{Open}
@@ -41,7 +41,7 @@ module _ (r : Run) where
   run-holds u = run-open u .holds
 
   -- while it is open, 17 is answered only for what a call is given
-  pub run-fits : desk r .writer .finished ≡ false → Fits (desk r)
+  pub run-fits : desk r .writer .finished ≡ false → FitDesk (desk r)
   run-fits u = open-fits (run-open u)
 
   pub run-given : desk r .writer .finished ≡ false → (c : Call) → (answer (asks c) (desk r) ≡ Misfit) ↔ Misgiven c
@@ -56,7 +56,7 @@ module _ (r : Run) where
     -- before its finish it is open
     at-end : Open (r .numbers) (eventsIn r) (bootIn r) (marksIn r) (desk r)
     unfolding Finishes answer
-    at-end = run-open (finish-fits (desk r .writer) (length (desk r .blob)) (desk r .strings) f .unmarked)
+    at-end = run-open (finish-fits (desk r .writer) (length (desk r .blob)) (desk r .strings) f .unfinished)
 
     shown-from : blob r ≡ blobFrom (reservationsOf (r .numbers)) (bootIn r) (eventsIn r)
     unfolding Finishes blob

@@ -17,7 +17,7 @@ use Rattle.fdt_strings.specs.Entries.{joined}
 use Rattle.fdt_reserve.specs.Entry.{invalid}
 use Rattle.fdt_reserve.specs.Overlap.{start, size}
 use Rattle.fdt_reserve.proofs.Overlap.{some-at}
-use Rattle.fdt_format.specs.Blob.{namesOf, structureBytes, numbersOf, blobFrom, blobOf, AllPlain, AllTold, WellFormed}
+use Rattle.fdt_format.specs.Blob.{namesOf, structureBytes, numbersOf, blobFrom, blobOf, AllPlain, AllReservable, WellFormed}
 use Rattle.fdt_format.specs.Description.{Nodes}
 use Rattle.fdt_format.specs.Events.{Event, events, nodesOf}
 use Rattle.fdt_header.specs.Header.{headerSize, reservationBytes, headerBytes}
@@ -57,8 +57,8 @@ count-paired (a ∷ []) h = absurd (omega arith)
 count-paired (a ∷ b ∷ numbers) h = omega (arith, count-paired numbers (omega arith))
 
 -- the format can hold valid reservations
-told-valid : (numbers : List ℕ) → length numbers % 2 ≡ 0 → ((k : ℕ) → k < count numbers → invalid (start numbers k) (size numbers k) ≡ false) → AllTold (reservationsOf numbers)
-unfolding reservationsOf AllTold invalid start size
+told-valid : (numbers : List ℕ) → length numbers % 2 ≡ 0 → ((k : ℕ) → k < count numbers → invalid (start numbers k) (size numbers k) ≡ false) → AllReservable (reservationsOf numbers)
+unfolding reservationsOf AllReservable invalid start size
 told-valid [] h f = tt
 told-valid (a ∷ []) h f = absurd (omega arith)
 told-valid (a ∷ b ∷ numbers) h f =
@@ -80,9 +80,9 @@ told-valid (a ∷ b ∷ numbers) h f =
         let j : 2 * (k + 1) + 1 ≡ suc (suc (2 * k + 1)) = omega arith in
         sym (ap (λ (n : ℕ). invalid (getD (a ∷ b ∷ numbers) n 0) (getD numbers (2 * k + 1) 0)) i) ∙ sym (ap (λ (n : ℕ). invalid (getD (a ∷ b ∷ numbers) (2 * (k + 1)) 0) (getD (a ∷ b ∷ numbers) n 0)) j) ∙ h
 
-pub told-opened : (numbers : List ℕ) → length numbers % 2 ≡ 0 → someInvalid numbers ≡ false → AllTold (reservationsOf numbers)
+pub reservable-opened : (numbers : List ℕ) → length numbers % 2 ≡ 0 → someInvalid numbers ≡ false → AllReservable (reservationsOf numbers)
 unfolding someInvalid
-told-opened numbers h f = told-valid numbers h (λ k l. go k l (invalid (start numbers k) (size numbers k)) refl)
+reservable-opened numbers h f = told-valid numbers h (λ k l. go k l (invalid (start numbers k) (size numbers k)) refl)
   where
     go : (k : ℕ) → k < count numbers → (b : Bool) → invalid (start numbers k) (size numbers k) ≡ b → b ≡ false
     go k l true e = sym (some-at (λ (j : ℕ). invalid (start numbers j) (size numbers j)) (count numbers) k l e) ∙ f
@@ -157,7 +157,7 @@ module _ {numbers : List ℕ} {es : List Event} {boot : ℕ} {marks : List ℕ} 
       in
       record {
         names = subst AllPlain (sym q) (o .plain);
-        told = told-opened numbers even valid;
+        reservable = reservable-opened numbers even valid;
         boot = small;
         size = subst (λ (l : List Event). length (blobFrom (reservationsOf numbers) boot l) < 2 ^ 32) (sym q) (omega (arith, n, g .room, g .small));
       }

@@ -35,7 +35,7 @@ use Rattle.fdt_finish.specs.Boot.{bootAnswer}
 use Rattle.fdt_finish.specs.Finish.{finishRows, finishAnswer}
 use Rattle.fdt_calls.specs.Calls.{Call, new, new-with-mem-reserv, set-boot-cpuid-phys, begin-node, end-node, property, property-null, property-string, property-string-list, property-u32, property-u64, property-array-u32, property-array-u64, property-phandle, finish, show, asks, to-open, to-boot, to-begin, to-end, to-have, to-mark, to-finish, Desk, answer, markAnswer}
 use Rattle.fdt_calls.proofs.Refused.{marked-answer}
-use Rattle.fdt_promises.specs.Run.{Filled, Fits, Misgiven, odd-count, other-sum}
+use Rattle.fdt_promises.specs.Run.{Filled, FitDesk, Misgiven, odd-count, other-sum}
 use Rattle.fdt_promises.proofs.Held.{Open, marked-open}
 
 -- ---- the record fits
@@ -69,7 +69,7 @@ module _ {numbers : List ℕ} {es : List Event} {boot : ℕ} {marks : List ℕ} 
       in
       simp (ne-eqb used 0 (λ z. omega (arith, e, z)), eq-eqb _ _ l)
 
-  pub open-fits : Fits s
+  pub open-fits : FitDesk s
   unfolding misfitRecord misfitBlob offStructure misfitStrings misfitPhandles
   open-fits =
       let h = o .holds in

@@ -19,7 +19,7 @@ use Rattle.fdt_strings.specs.declared.Interned.{Interned}
 use Rattle.fdt_strings.specs.declared.Interned.the-variants as place
 use Rattle.fdt_strings.specs.Entries.{foundValues, entry, entries, firstFrom, findString, joined, NoZero, no-byte, next-byte}
 use Rattle.fdt_strings.specs.Interned.{interned, numberOf, valuesOf}
-use Rattle.fdt_strings.proofs.Entries.{Plain as PlainNames, entries-joined, joined-append, first-after, eq-same}
+use Rattle.fdt_strings.proofs.Entries.{PlainNames as PlainNames, entries-joined, joined-append, first-after, eq-same}
 use Rattle.fdt_strings.proofs.Places.{known-found, new-placed}
 use Rattle.fdt_format.specs.Events.{Event, begins, has, ends}
 use Rattle.fdt_format.specs.Blob.{orAtEnd, withName, foundAt, offsetOf, eventSize, eventsSize, Plain, AllPlain}
@@ -73,7 +73,7 @@ no-zero (b ∷ s) h = go (eqb b 0) refl (λ t. no-zero s t) h
     go false e more h = let n : b ≡ 0 → ⊥ = eqb-false b 0 e in let p : 0 < b = omega (arith, n) in next-byte p (more h)
 
 -- the strings of names, with a name at its place
-pub record Named (room used : ℕ) (strings name : List ℕ) (names : List (List ℕ)) (p : Interned) : Type 0 where
+pub record NameStored (room used : ℕ) (strings name : List ℕ) (names : List (List ℕ)) (p : Interned) : Type 0 where
   pub offset : placeOffset p ≡ offsetOf (withName names name) name
   pub filled : Filled stringsCeiling (joined (withName names name)) room (used + added p name) (stored p name strings)
 
@@ -83,11 +83,11 @@ module _ {room used : ℕ} {strings : List ℕ} (name : List ℕ) {names : List 
   unfolding findString
   among g e = ap (λ (l : List (List ℕ)). firstFrom 0 l name) (sym (entries-joined plain) ∙ ap entries (sym (f .part))) ∙ e
 
-  pub named : isFull (interned (take used strings) room name) ≡ false → Named room used strings name names (interned (take used strings) room name)
+  pub named : isFull (interned (take used strings) room name) ≡ false → NameStored room used strings name names (interned (take used strings) room name)
   unfolding isFull numberOf placeOffset valuesOf offsetOf foundAt foundValues withName orAtEnd added stored firstFrom joined
   named h = go (interned (take used strings) room name) refl h
     where
-      known : (i : ℕ) → firstFrom 0 names name ≡ At i → Named room used strings name names (place.Known i)
+      known : (i : ℕ) → firstFrom 0 names name ≡ At i → NameStored room used strings name names (place.Known i)
       known i g =
           let w : withName names name ≡ names = simp g in
           let z : used + 0 ≡ used = omega arith in
@@ -97,7 +97,7 @@ module _ {room used : ℕ} {strings : List ℕ} (name : List ℕ) {names : List 
                 (subst (λ (l : List (List ℕ)). Filled stringsCeiling (joined l) room used strings) (sym w) f);
           }
 
-      new : (i : ℕ) → firstFrom 0 names name ≡ Nothing → i ≡ used → used + length (entry name) ≤ room → Named room used strings name names (place.New i)
+      new : (i : ℕ) → firstFrom 0 names name ≡ Nothing → i ≡ used → used + length (entry name) ≤ room → NameStored room used strings name names (place.New i)
       new i g e fits =
           let w : withName names name ≡ names ++ (name ∷ []) = simp g in
           let j : joined (names ++ (name ∷ [])) ≡ joined names ++ entry name =
@@ -112,7 +112,7 @@ module _ {room used : ℕ} {strings : List ℕ} (name : List ℕ) {names : List 
                 (subst (λ (l : List ℕ). Filled stringsCeiling l room (used + length (entry name)) (splice used (entry name) strings)) (sym (ap joined w ∙ j)) (more-filled f (entry name) fits));
           }
 
-      go : (p : Interned) → interned (take used strings) room name ≡ p → isFull p ≡ false → Named room used strings name names p
+      go : (p : Interned) → interned (take used strings) room name ≡ p → isFull p ≡ false → NameStored room used strings name names p
       go (place.Known i) e h = known i (among (At i) (known-found (take used strings) name room i e))
       go (place.New i) e h =
           let s = new-placed (take used strings) name room i e in

@@ -31,9 +31,9 @@ use Rattle.fdt_properties.proofs.Property.{property-fits}
 use Rattle.fdt_phandles.specs.Phandle.{phandleName, phandleValue, recorded}
 use Rattle.fdt_phandles.proofs.Phandles.{record-fits}
 use Rattle.fdt_finish.specs.Finish.{finishedRecord}
-use Rattle.fdt_calls.specs.Calls.{Request, to-open, to-boot, to-begin, to-end, to-have, to-mark, to-finish, to-show, Effect, opens, sets-boot, adds, records, nothing, effect, Desk, withWriter, withPhandles, answer, after, markAnswer, marked, leftBy}
+use Rattle.fdt_calls.specs.Calls.{Request, to-open, to-boot, to-begin, to-end, to-have, to-mark, to-finish, to-show, Effect, opens, sets-boot, adds, records, no-effect, effect, Desk, withWriter, withPhandles, answer, after, markAnswer, marked, leftBy}
 use Rattle.fdt_calls.proofs.Refused.{marked-answer, marked-after, refused-mark, refused-after}
-use Rattle.fdt_promises.specs.Run.{Filled, Holds, told, tells, bootAfter, boots, recordedBy, deepens, closes, InRun}
+use Rattle.fdt_promises.specs.Run.{Filled, Holds, addedBy, tells, bootAfter, boots, recordedBy, deepens, closes, InRun}
 use Rattle.fdt_promises.proofs.Desks.{grown, booted-after, begun-after, ended-after, had-after, finished-after}
 use Rattle.fdt_promises.proofs.Growth.{more-filled, one-filled, no-zero, named, plain-snoc, size-snoc, depth-snoc, ended-snoc, Follows, still-shallow, still-accepted}
 
@@ -186,11 +186,11 @@ silent {es = es} o = rw (append-nil es) o
 
 module _ {numbers : List ℕ} {es : List Event} {boot : ℕ} {marks : List ℕ} {s : Desk} (o : Open numbers es boot marks s) where
   -- an accepted phandle: its value is recorded, and then it is a property
-  phandle-open : (value : ℕ) → answer (to-mark value) s ≡ Done → Open numbers (es ++ told (records value)) boot (marks ++ recordedBy (records value) s) (after (to-mark value) s)
-  unfolding told recordedBy accepts
+  phandle-open : (value : ℕ) → answer (to-mark value) s ≡ Done → Open numbers (es ++ addedBy (records value)) boot (marks ++ recordedBy (records value) s) (after (to-mark value) s)
+  unfolding addedBy recordedBy accepts
   phandle-open value e = go (accepts (markAnswer value s)) refl
     where
-      go : (b : Bool) → accepts (markAnswer value s) ≡ b → Open numbers (es ++ told (records value)) boot (marks ++ recordedBy (records value) s) (after (to-mark value) s)
+      go : (b : Bool) → accepts (markAnswer value s) ≡ b → Open numbers (es ++ addedBy (records value)) boot (marks ++ recordedBy (records value) s) (after (to-mark value) s)
       go true t =
           let d = accepts-done (markAnswer value s) t in
           rw (marked-after s value d, upon-done (markAnswer value s) _ _ d)
@@ -208,10 +208,10 @@ module _ {numbers : List ℕ} {es : List Event} {boot : ℕ} {marks : List ℕ} 
       go : (b : Bool) → accepts (markAnswer value s) ≡ b → Open numbers es boot (marks ++ upon (markAnswer value s) (value ∷ []) []) (upon (markAnswer value s) (marked s value) s)
       go true t = let d = accepts-done (markAnswer value s) t in rw (upon-done (markAnswer value s) (value ∷ []) [] d, upon-done (markAnswer value s) (marked s value) s d) (marked-open o value d)
       go false t = rw (upon-refused (markAnswer value s) (value ∷ []) [] t, upon-refused (markAnswer value s) (marked s value) s t) (unmarked o)
-  left-open nothing i = unmarked o
+  left-open no-effect i = unmarked o
 
   pub accepted-open : (c : Request) → InRun (effect c) → answer c s ≡ Done → after c s .writer .finished ≡ false → Open numbers (es ++ tells c) (boots boot c) (marks ++ recordedBy (effect c) s) (after c s)
-  unfolding InRun effect told bootAfter recordedBy finishedRecord after
+  unfolding InRun effect addedBy bootAfter recordedBy finishedRecord after
   accepted-open (to-open ns) i e u = absurd i
   accepted-open (to-boot n) i e u = unmarked (silent (booted-open o n i e))
   accepted-open (to-begin name) i e u = unmarked (begun-open o name e)

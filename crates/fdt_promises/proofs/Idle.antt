@@ -14,8 +14,8 @@ use Rattle.fdt_record.specs.declared.Answer.{Answer}
 use Rattle.fdt_record.specs.Answers.{accepts, upon}
 use Rattle.fdt_record.proofs.Answers.{accepts-done, upon-done, upon-refused}
 use Rattle.fdt_phandles.specs.Phandle.{phandleName, phandleValue}
-use Rattle.fdt_calls.specs.Calls.{Call, property, property-string, property-u32, property-array-u32, property-array-u64, property-phandle, asks, Request, to-open, to-have, Effect, opens, sets-boot, adds, records, nothing, effect, Desk, answer, after, markAnswer, marked, leftBy}
-use Rattle.fdt_promises.specs.Run.{runs, accepted, recordedBy, told, tells, eventsOf, bootAfter, boots, bootOf, reservationsOf, withNodes, describe, InRun, AllInRun, Run, allAsk, opened-desk, history, eventsIn, bootIn, description, Idle, shows, refused, OneMore}
+use Rattle.fdt_calls.specs.Calls.{Call, property, property-string, property-u32, property-array-u32, property-array-u64, property-phandle, asks, Request, to-open, to-have, Effect, opens, sets-boot, adds, records, no-effect, effect, Desk, answer, after, markAnswer, marked, leftBy}
+use Rattle.fdt_promises.specs.Run.{runs, acceptedCalls, recordedBy, addedBy, tells, eventsOf, bootAfter, boots, bootOf, reservationsOf, withNodes, describe, InRun, AllInRun, Run, allAsk, opened-desk, history, eventsIn, bootIn, description, Idle, shows, refused, OneMore}
 use Rattle.fdt_calls.proofs.Refused.{refused-after}
 
 -- ---- what a description is made of
@@ -28,18 +28,18 @@ same-told r q e f g =
     ∙ ap (λ (es : List Event). withNodes (reservationsOf (q .numbers)) (bootIn q) (nodesOf es)) g
 
 pub same-kinds : (name : List ℕ) (v u : Value) → valueBytes v ≡ valueBytes u → tells (to-have name v) ≡ tells (to-have name u)
-unfolding effect told
+unfolding effect addedBy
 same-kinds name v u e = ap (λ (l : List ℕ). has (name ≔ l) ∷ []) e
 
 pub kinds-as-bytes : (name : List ℕ) →
     ((numbers : List ℕ) → tells (asks (property-array-u32 name numbers)) ≡ tells (asks (property name (cellBytes 4 numbers))))
     × ((numbers : List ℕ) → tells (asks (property-array-u64 name numbers)) ≡ tells (asks (property name (cellBytes 8 numbers))))
     × ((string : List ℕ) → tells (asks (property-string name string)) ≡ tells (asks (property name (entry string))))
-unfolding asks effect told valueBytes
+unfolding asks effect addedBy valueBytes
 kinds-as-bytes name = (λ numbers. refl, λ numbers. refl, λ string. ap (λ (l : List ℕ). has (name ≔ l) ∷ []) (texts-one string))
 
 pub same-phandle : (value : ℕ) → tells (asks (property-phandle value)) ≡ tells (asks (property-u32 phandleName value))
-unfolding asks effect told phandleValue
+unfolding asks effect addedBy phandleValue
 same-phandle value = refl
 
 -- ---- one more call
@@ -57,7 +57,7 @@ idle-left (records value) s i e = go (accepts (markAnswer value s)) refl
         let h : value ∷ [] ≡ [] = sym (upon-done (markAnswer value s) (value ∷ []) [] (accepts-done (markAnswer value s) t)) ∙ e in
         let z : _≡_ {A = ℕ} 0 1 = cc in absurd (omega arith)
     go false t = upon-refused (markAnswer value s) (marked s value) s t
-idle-left nothing s i e = refl
+idle-left no-effect s i e = refl
 
 -- two lists of accepted calls tell the same events and leave the same boot number
 record Tells (cs ds : List Request) : Type 0 where
@@ -73,15 +73,15 @@ same-front c a {cs} {ds} t = go (accepts a) refl
     go true e = let d = accepts-done a e in rw (upon-done a (c ∷ cs) cs d, upon-done a (c ∷ ds) ds d) (record { events = ap (λ (l : List Event). tells c ++ l) (t .events); boot = λ n. t .boot (boots n c) })
     go false e = rw (upon-refused a (c ∷ cs) cs e, upon-refused a (c ∷ ds) ds e) t
 
-idle-told : {s : Desk} {c : Request} → InRun (effect c) → Idle s c → (cs : List Request) → Tells (accepted (c ∷ cs) s) (accepted cs s)
-unfolding accepted answer after effect told eventsOf bootAfter accepts
+idle-told : {s : Desk} {c : Request} → InRun (effect c) → Idle s c → (cs : List Request) → Tells (acceptedCalls (c ∷ cs) s) (acceptedCalls cs s)
+unfolding acceptedCalls answer after effect addedBy eventsOf bootAfter accepts
 idle-told i shows cs = record { events = refl; boot = λ n. refl }
 idle-told {s} i (refused c e n) cs =
     let left : after c s ≡ s = refused-after s c e ∙ idle-left (effect c) s i n in
-    rw (upon-refused (answer c s) (c ∷ accepted cs (after c s)) (accepted cs (after c s)) e, left) (record { events = refl; boot = λ n. refl })
+    rw (upon-refused (answer c s) (c ∷ acceptedCalls cs (after c s)) (acceptedCalls cs (after c s)) e, left) (record { events = refl; boot = λ n. refl })
 
-extra-told : (cs : List Request) {c : Request} (ds : List Request) (s : Desk) → AllInRun (cs ++ (c ∷ ds)) → Idle (runs cs s) c → Tells (accepted (cs ++ (c ∷ ds)) s) (accepted (cs ++ ds) s)
-unfolding accepted runs AllInRun
+extra-told : (cs : List Request) {c : Request} (ds : List Request) (s : Desk) → AllInRun (cs ++ (c ∷ ds)) → Idle (runs cs s) c → Tells (acceptedCalls (cs ++ (c ∷ ds)) s) (acceptedCalls (cs ++ ds) s)
+unfolding acceptedCalls runs AllInRun
 extra-told [] ds s i x = idle-told (i .0) x ds
 extra-told (b ∷ cs) ds s i x = same-front b (answer b s) (extra-told cs ds (after b s) (i .1) x)
 
@@ -90,9 +90,9 @@ unfolding allAsk
 ask-append [] ds = refl
 ask-append (c ∷ cs) ds = ap (λ (l : List Request). asks c ∷ l) (ask-append cs ds)
 
-history-of : (r : Run) (s : Desk) (cs : List Request) → opened-desk r ≡ s → allAsk (r .calls) ≡ cs → history r ≡ accepted cs s
+history-of : (r : Run) (s : Desk) (cs : List Request) → opened-desk r ≡ s → allAsk (r .calls) ≡ cs → history r ≡ acceptedCalls cs s
 unfolding history
-history-of r s cs e f = ap (accepted (allAsk (r .calls))) e ∙ ap (λ (l : List Request). accepted l s) f
+history-of r s cs e f = ap (acceptedCalls (allAsk (r .calls))) e ∙ ap (λ (l : List Request). acceptedCalls l s) f
 
 same-opened : (q r : Run) → q .before ≡ r .before → q .numbers ≡ r .numbers → opened-desk q ≡ opened-desk r
 unfolding opened-desk

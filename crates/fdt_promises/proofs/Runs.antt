@@ -27,7 +27,7 @@ use Rattle.fdt_finish.specs.Boot.{bootAnswer}
 use Rattle.fdt_finish.specs.Finish.{finishRows, finishAnswer}
 use Rattle.fdt_calls.specs.Calls.{Request, to-open, to-boot, to-begin, to-end, to-have, to-mark, to-finish, to-show, effect, Desk, answer, after, markAnswer, marked, leftBy}
 use Rattle.fdt_calls.proofs.Refused.{refused-mark, refused-after}
-use Rattle.fdt_promises.specs.Run.{runs, accepted, recordedBy, phandlesOf, tells, eventsOf, boots, depthOf, endedOf, InRun, AllInRun}
+use Rattle.fdt_promises.specs.Run.{runs, acceptedCalls, recordedBy, phandlesOf, tells, eventsOf, boots, depthOf, endedOf, InRun, AllInRun}
 use Rattle.fdt_promises.proofs.Desks.{opened-after}
 use Rattle.fdt_promises.proofs.Growth.{none-filled, more-filled}
 use Rattle.fdt_promises.proofs.Held.{Open, accepted-open, refused-open}
@@ -94,14 +94,14 @@ open-before cs i s u = go (s .writer .finished) refl
 -- ---- all calls
 
 module _ {numbers : List ℕ} where
-  pub runs-open : (cs : List Request) → AllInRun cs → {es : List Event} {boot : ℕ} {marks : List ℕ} {s : Desk} → Open numbers es boot marks s → runs cs s .writer .finished ≡ false → Open numbers (es ++ eventsOf (accepted cs s)) (foldl boots boot (accepted cs s)) (marks ++ phandlesOf cs s) (runs cs s)
-  unfolding runs accepted phandlesOf eventsOf AllInRun
+  pub runs-open : (cs : List Request) → AllInRun cs → {es : List Event} {boot : ℕ} {marks : List ℕ} {s : Desk} → Open numbers es boot marks s → runs cs s .writer .finished ≡ false → Open numbers (es ++ eventsOf (acceptedCalls cs s)) (foldl boots boot (acceptedCalls cs s)) (marks ++ phandlesOf cs s) (runs cs s)
+  unfolding runs acceptedCalls phandlesOf eventsOf AllInRun
   runs-open [] i {es} {boot} {marks} {s} o u =
       rw (append-nil es, append-nil marks) o
   runs-open (c ∷ cs) i {es} {boot} {marks} {s} o u = go (accepts (answer c s)) refl (λ o′. runs-open cs (i .1) o′ u) (λ o′. runs-open cs (i .1) o′ u)
     where
       later : List Request
-      later = accepted cs (after c s)
+      later = acceptedCalls cs (after c s)
 
       marked-later : List ℕ
       marked-later = phandlesOf cs (after c s)

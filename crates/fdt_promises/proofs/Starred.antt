@@ -7,9 +7,9 @@ use Rattle.fdt_bytes.specs.Splice.{over, splice}
 use Rattle.fdt_names.specs.Grammar.{all, inTwo, matches}
 use Rattle.fdt_names.specs.Names.{is, oneOf, letter, digit, nameByte, nodeByte, propertyByte, unitAddress, nodeName, propertyName, hasZero}
 use Rattle.fdt_reserve.specs.Entry.{invalid}
-use Rattle.fdt_reserve.specs.Overlap.{start, size, some, share, overlapping}
+use Rattle.fdt_reserve.specs.Overlap.{start, size, someBelow, share, overlapping}
 use Rattle.fdt_strings.specs.Entries.{entry, withByte, entries, same, firstFrom, findString}
-use Rattle.fdt_strings.specs.Interned.{place, orElse, interned, numberOf, valuesOf}
+use Rattle.fdt_strings.specs.Interned.{newName, orElse, interned, numberOf, valuesOf}
 use Rattle.fdt_format.specs.Tokens.{beginBytes, propertyBytes, finalBytes}
 use Rattle.fdt_header.specs.Header.{reservationBytes, wordsFrom, headerWords, headerBytes}
 use Rattle.fdt_values.specs.Value.{valueBytes, misfitValue, zeroValue}
@@ -27,5 +27,5 @@ use Rattle.fdt_promises.specs.Examples.{dirty, emptyWords}
 use Rattle.fdt_promises.specs.Starred.{holds, allHold, fresh, beginGives, propertyIn, openWith, openedOver, openedBlob, emptyRun, emptyBlob, long, last, starred}
 
 pub starred-hold : allHold starred ≡ true
-unfolding bigEndian cellBytes padding roundUp zeros padded over splice all inTwo matches is oneOf letter digit nameByte nodeByte propertyByte unitAddress nodeName propertyName hasZero invalid start size some share overlapping entry withByte entries same firstFrom findString place orElse interned beginBytes propertyBytes finalBytes reservationBytes wordsFrom headerWords headerBytes valueBytes misfitValue zeroValue accepts usable misfitRecord misfitRoom offStructure misfitBlob misfitStrings overfull first aloneRows blobRows stringsRows someInvalid openingRows openingAnswer openedRecord closedRecord openingBytes opening openingBlob beginRows beginAnswer begunRecord begin placeOf isFull numberOf placeOffset valuesOf added written propertyRecord stateRows nameRows roomRows propertyRows propertyAnswer property usedStrings finishRows finishAnswer finishedRecord finishedBlob finish finishBlob showable shown holds allHold fresh beginGives propertyIn openWith dirty openedOver openedBlob emptyRun emptyBlob emptyWords long last starred
+unfolding bigEndian cellBytes padding roundUp zeros padded over splice all inTwo matches is oneOf letter digit nameByte nodeByte propertyByte unitAddress nodeName propertyName hasZero invalid start size someBelow share overlapping entry withByte entries same firstFrom findString newName orElse interned beginBytes propertyBytes finalBytes reservationBytes wordsFrom headerWords headerBytes valueBytes misfitValue zeroValue accepts usable misfitRecord misfitRoom offStructure misfitBlob misfitStrings overfull first aloneRows blobRows stringsRows someInvalid openingRows openingAnswer openedRecord closedRecord openingBytes opening openingBlob beginRows beginAnswer begunRecord begin placeOf isFull numberOf placeOffset valuesOf added written propertyRecord stateRows nameRows roomRows propertyRows propertyAnswer property usedStrings finishRows finishAnswer finishedRecord finishedBlob finish finishBlob showable shown holds allHold fresh beginGives propertyIn openWith dirty openedOver openedBlob emptyRun emptyBlob emptyWords long last starred
 starred-hold = refl

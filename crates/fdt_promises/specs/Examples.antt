@@ -10,8 +10,8 @@ unfoldable pub dirty : ℕ → List ℕ
 dirty n = replicate n 238
 
 -- a closed record, and buffers of 128 bytes, 32 bytes and 4 entries with earlier contents
-unfoldable pub lent : Desk
-lent = record { writer = closedRecord; blob = dirty 128; strings = dirty 32; phandles = dirty 4 }
+unfoldable pub lentDesk : Desk
+lentDesk = record { writer = closedRecord; blob = dirty 128; strings = dirty 32; phandles = dirty 4 }
 
 -- the calls of the empty run, between opening and finish
 unfoldable pub emptyCalls : List Call

@@ -9,7 +9,7 @@ use Rattle.fdt_bytes.specs.Padding.{zeros}
 use Rattle.fdt_strings.specs.Entries.{joined}
 use Rattle.fdt_values.specs.Value.{sum, valueBytes}
 use Rattle.fdt_format.specs.Blob.{namesOf, structureBytes, eventsSize}
-use Rattle.fdt_format.specs.Description.{_≔_, Nodes, Reservation, reserved, Description}
+use Rattle.fdt_format.specs.Description.{_≔_, Nodes, Reservation, reservation, Description}
 use Rattle.fdt_format.specs.Events.{Event, begins, has, ends, nodesOf}
 use Rattle.fdt_header.specs.Header.{headerSize, structureStart, reservationBytes}
 use Rattle.fdt_record.specs.declared.Answer.the-variants.{Done}
@@ -18,7 +18,7 @@ use Rattle.fdt_record.specs.Limits.{blobCeiling, stringsCeiling, phandlesCeilin
 use Rattle.fdt_record.specs.Misfits.{misfitRecord, misfitBlob, misfitStrings, misfitPhandles}
 use Rattle.fdt_opening.specs.Opening.{count}
 use Rattle.fdt_phandles.specs.Phandle.{phandleName, phandleValue}
-use Rattle.fdt_calls.specs.Calls.{Call, new-with-mem-reserv, property-string-list, asks, Request, to-open, to-finish, to-show, Effect, opens, sets-boot, adds, records, nothing, effect, Desk, answer, after, markAnswer}
+use Rattle.fdt_calls.specs.Calls.{Call, new-with-mem-reserv, property-string-list, asks, Request, to-open, to-finish, to-show, Effect, opens, sets-boot, adds, records, no-effect, effect, Desk, answer, after, markAnswer}
 use Rattle.fdt_calls.specs.Called.{shownPart}
 
 -- ---- calls one after the other
@@ -29,9 +29,9 @@ runs [] s = s
 runs (c ∷ cs) s = runs cs (after c s)
 
 -- the calls that are accepted
-unfoldable pub accepted : List Request → Desk → List Request
-accepted [] s = []
-accepted (c ∷ cs) s = upon (answer c s) (c ∷ accepted cs (after c s)) (accepted cs (after c s))
+unfoldable pub acceptedCalls : List Request → Desk → List Request
+acceptedCalls [] s = []
+acceptedCalls (c ∷ cs) s = upon (answer c s) (c ∷ acceptedCalls cs (after c s)) (acceptedCalls cs (after c s))
 
 -- the values that a call records: that of a phandle call that passed 13 and 16, even if the call is then refused
 unfoldable pub recordedBy : Effect → Desk → List ℕ
@@ -39,7 +39,7 @@ recordedBy opens s = []
 recordedBy (sets-boot n) s = []
 recordedBy (adds e) s = []
 recordedBy (records value) s = upon (markAnswer value s) (value ∷ []) []
-recordedBy nothing s = []
+recordedBy no-effect s = []
 
 -- the values that calls record
 unfoldable pub phandlesOf : List Request → Desk → List ℕ
@@ -49,16 +49,16 @@ phandlesOf (c ∷ cs) s = recordedBy (effect c) s ++ phandlesOf cs (after c s)
 -- ---- what accepted calls describe
 
 -- the events that an accepted call adds, by its effect
-unfoldable pub told : Effect → List Event
-told opens = []
-told (sets-boot n) = []
-told (adds e) = e ∷ []
-told (records value) = has (phandleName ≔ valueBytes (phandleValue value)) ∷ []
-told nothing = []
+unfoldable pub addedBy : Effect → List Event
+addedBy opens = []
+addedBy (sets-boot n) = []
+addedBy (adds e) = e ∷ []
+addedBy (records value) = has (phandleName ≔ valueBytes (phandleValue value)) ∷ []
+addedBy no-effect = []
 
 -- the events that an accepted call adds
 abbrev pub tells : Request → List Event
-tells c = told (effect c)
+tells c = addedBy (effect c)
 
 -- the events of accepted calls
 unfoldable pub eventsOf : List Request → List Event
@@ -71,7 +71,7 @@ bootAfter n opens = n
 bootAfter n (sets-boot m) = m
 bootAfter n (adds e) = n
 bootAfter n (records value) = n
-bootAfter n nothing = n
+bootAfter n no-effect = n
 
 -- the boot number after an accepted call
 abbrev pub boots : ℕ → Request → ℕ
@@ -85,7 +85,7 @@ bootOf cs = foldl boots 0 cs
 unfoldable pub reservationsOf : List ℕ → List Reservation
 reservationsOf [] = []
 reservationsOf (address ∷ []) = []
-reservationsOf (address ∷ size ∷ numbers) = reserved address size ∷ reservationsOf numbers
+reservationsOf (address ∷ size ∷ numbers) = reservation address size ∷ reservationsOf numbers
 
 -- a description with these nodes; none if the events are not those of nodes
 unfoldable pub withNodes : List Reservation → ℕ → Option Nodes → Option Description
@@ -150,7 +150,7 @@ InRun opens = ⊥
 InRun (sets-boot n) = n < 2 ^ 32
 InRun (adds e) = Unit {0}
 InRun (records value) = Unit {0}
-InRun nothing = Unit {0}
+InRun no-effect = Unit {0}
 
 -- every call may be part of a run
 unfoldable pub AllInRun : List Request → Type 0
@@ -180,7 +180,7 @@ desk r = runs (allAsk (r .calls)) (opened-desk r)
 
 -- the calls that were accepted in the run
 unfoldable pub history : Run → List Request
-history r = accepted (allAsk (r .calls)) (opened-desk r)
+history r = acceptedCalls (allAsk (r .calls)) (opened-desk r)
 
 -- the events of the accepted calls
 abbrev pub eventsIn : Run → List Event
@@ -225,7 +225,7 @@ pub record OneMore (r q : Run) : Type 0 where
 -- ---- misfit 17
 
 -- the record fits the buffers: no test of 17 holds
-pub record Fits (s : Desk) : Type 0 where
+pub record FitDesk (s : Desk) : Type 0 where
   pub figures : misfitRecord (s .writer) ≡ false
   pub blob : misfitBlob (s .writer) (length (s .blob)) ≡ false
   pub strings : misfitStrings (s .writer) (s .strings) ≡ false

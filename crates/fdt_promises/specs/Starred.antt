@@ -18,17 +18,17 @@ use Rattle.fdt_finish.specs.Shown.{shown}
 use Rattle.fdt_promises.specs.Examples.{dirty, emptyWords}
 
 -- a case: a number that a call answers, or bytes that it leaves, and what document 01 says they are
-pub data Case : Type 0 where
-  answers : ℕ → ℕ → Case
-  leaves : List ℕ → List ℕ → Case
+pub data StarredCase : Type 0 where
+  answers : ℕ → ℕ → StarredCase
+  leaves : List ℕ → List ℕ → StarredCase
 
 -- the case is as document 01 says
-unfoldable pub holds : Case → Bool
+unfoldable pub holds : StarredCase → Bool
 holds (answers given expected) = eqb given expected
 holds (leaves given expected) = same given expected
 
 -- every case of the table is
-unfoldable pub allHold : List Case → Bool
+unfoldable pub allHold : List StarredCase → Bool
 allHold [] = true
 allHold (c ∷ cs) = holds c && allHold cs
 
@@ -73,7 +73,7 @@ unfoldable pub last : ℕ
 last = 2 ^ 64 - 1
 
 -- the starred cases, in document 01's order, with the two that continue one: begin at depth 64, and 59 bytes lent
-unfoldable pub starred : List Case
+unfoldable pub starred : List StarredCase
 starred =
     -- base name of 31 bytes taken, 32 refused 10; a@ taken; @1 and 1a refused 10
     answers (beginGives 0 (long 30)) 0

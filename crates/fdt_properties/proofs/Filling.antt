@@ -25,7 +25,7 @@ use Rattle.fdt_record.proofs.Answers.{outcome-accepted, outcome-refused, left-a
 use Rattle.fdt_properties.specs.declared.Measured.{Measured}
 use Rattle.fdt_properties.specs.declared.Placed.{Placed}
 use Rattle.fdt_properties.specs.declared.Tested.{Tested}
-use Rattle.fdt_properties.specs.Placeholder.{Measures, storedAt, FrameFits, framed, Tests, Unfilled, Placeholder}
+use Rattle.fdt_properties.specs.Placeholder.{Measures, storedAt, FrameFits, framed, PropertyTested, Unfilled, Placeholder}
 use Rattle.fdt_properties.specs.Property.{placeOf, placeOffset, stored, written, property, propertyBlob, propertyStrings, PropertyOutcome}
 use Rattle.fdt_properties.proofs.Places.{stored-at}
 
@@ -80,7 +80,7 @@ module _ (used offset len end : ℕ) (value blob : List ℕ) (sized : len ≡ le
       ∙ ap (λ (n : ℕ). splice used (words ++ (value ++ zeros n)) blob) pad
       ∙ ap (λ (n : ℕ). splice used (cellBytes 4 (propertyToken ∷ n ∷ offset ∷ []) ++ (value ++ zeros (padding 4 n))) blob) sized
 
-module _ {w : Record} {blob strings name : List ℕ} {m : Measured} {r : Tested} (tests : Tests w blob strings name m r) where
+module _ {w : Record} {blob strings name : List ℕ} {m : Measured} {r : Tested} (tests : PropertyTested w blob strings name m r) where
   -- refused: nothing is altered
   pub nothing-placed : accepts (r .answer) ≡ false → (v : Value) → Measures m v → Placeholder w blob strings name v (record { outcome = record { answer = r .answer; after = w }; accepted = false; at = 0 }) blob strings
   unfolding property propertyStrings
@@ -89,7 +89,7 @@ module _ {w : Record} {blob strings name : List ℕ} {m : Measured} {r : Tested}
       record {
         result = outcome-refused _ _ told _ _ t;
         names = left-refused _ _ told _ _ t;
-        told = sym t;
+        accepts-is = sym t;
         refused = λ h. refl;
         unfilled = λ h. absurd (true≢false (sym h));
       }
@@ -109,7 +109,7 @@ module _ {w : Record} {blob strings name : List ℕ} {m : Measured} {r : Tested}
         names =
             es ∙ rw (q .offset-is, q .added-is) (stored-at (placeOf w strings name) name strings)
             ∙ left-accepted _ _ told _ _ t;
-        told = sym t;
+        accepts-is = sym t;
         refused = λ h. absurd (true≢false h);
         unfilled =
             λ h. record {
@@ -129,7 +129,7 @@ module _ {w : Record} {blob strings name : List ℕ} {v : Value} {r : Placed} {b
   left-unfilled t =
       record {
         result = p .result;
-        bytes = p .refused t ∙ left-refused _ _ (ap (λ (o : Outcome). o .answer) (p .result)) _ _ (sym (p .told) ∙ t);
+        bytes = p .refused t ∙ left-refused _ _ (ap (λ (o : Outcome). o .answer) (p .result)) _ _ (sym (p .accepts-is) ∙ t);
         names = p .names;
       }
 
@@ -139,7 +139,7 @@ module _ {w : Record} {blob strings name : List ℕ} {v : Value} {r : Placed} {b
   filled-with t {b′} e =
       record {
         result = p .result;
-        bytes = e ∙ p .unfilled t .filled ∙ left-accepted _ _ (ap (λ (o : Outcome). o .answer) (p .result)) _ _ (sym (p .told) ∙ t);
+        bytes = e ∙ p .unfilled t .filled ∙ left-accepted _ _ (ap (λ (o : Outcome). o .answer) (p .result)) _ _ (sym (p .accepts-is) ∙ t);
         names = p .names;
       }
 

@@ -13,16 +13,16 @@ use Rattle.fdt_record.specs.declared.Record.{Record}
 use Rattle.fdt_record.specs.Answers.{accepts}
 use Rattle.fdt_record.specs.Tests.{aloneRows, blobRows, stringsRows}
 use Rattle.fdt_record.proofs.Fits.{FitRecord, fit-record, FitBlob, fit-blob, FitStrings, fit-strings, not-overfull}
-use Rattle.fdt_record.proofs.Rows.{all, Refusals, ByName, by-name, Exactly, exactly}
+use Rattle.fdt_record.proofs.Rows.{allAnswers, Refusals, ByName, by-name, Exactly, exactly}
 use Rattle.fdt_properties.specs.Property.{placeOf, isFull, written, propertyRecord, stateRows, nameRows, roomRows, propertyRows, propertyAnswer}
 
 -- every answer of the rows is a refusal
 pub first-refusals : (w : Record) (lent : ℕ) (strings name : List ℕ) (misfit zero : Bool) → Refusals (stateRows w lent strings misfit zero ++ nameRows name)
-unfolding stateRows stringsRows blobRows aloneRows nameRows all Refusals accepts
+unfolding stateRows stringsRows blobRows aloneRows nameRows allAnswers Refusals accepts
 first-refusals w lent strings name misfit zero = refl
 
 refusals : (w : Record) (blob strings name : List ℕ) (v : Value) → Refusals (propertyRows w blob strings name v)
-unfolding propertyRows stateRows stringsRows blobRows aloneRows nameRows roomRows all Refusals accepts
+unfolding propertyRows stateRows stringsRows blobRows aloneRows nameRows roomRows allAnswers Refusals accepts
 refusals w blob strings name v = refl
 
 module _ (w : Record) (blob strings name : List ℕ) (v : Value) where

@@ -19,10 +19,10 @@ use Rattle.fdt_record.specs.Rows.{Row, _⇒_, first}
 use Rattle.fdt_record.specs.Tests.{aloneRows, blobRows, stringsRows}
 use Rattle.fdt_record.proofs.Answers.{accepts-done}
 use Rattle.fdt_record.proofs.Fits.{FitBlob, fit-blob, FitStrings, fit-strings, not-overfull}
-use Rattle.fdt_record.proofs.Rows.{all, Refusals, ByName, by-name, exactly, stands, goes-on}
+use Rattle.fdt_record.proofs.Rows.{allAnswers, Refusals, ByName, by-name, exactly, stands, goes-on}
 use Rattle.fdt_properties.specs.declared.Measured.{Measured}
 use Rattle.fdt_properties.specs.declared.Place.{Place}
-use Rattle.fdt_properties.specs.Placeholder.{PlaceIs, Measures, NameFits, FrameFits, Passed, Tests}
+use Rattle.fdt_properties.specs.Placeholder.{PlaceIs, Measures, NameFits, FrameFits, Passed, PropertyTested}
 use Rattle.fdt_properties.specs.Property.{placeOf, isFull, placeOffset, added, written, propertyRecord, stateRows, nameRows, roomRows, propertyRows, propertyAnswer}
 use Rattle.fdt_properties.proofs.Places.{settled}
 use Rattle.fdt_properties.proofs.Property.{first-refusals}
@@ -53,7 +53,7 @@ module _ (w : Record) (blob strings name : List ℕ) (m : Measured) {a : Answer}
       record { blob-fits = fit-blob w (length blob) lent; names = fit-strings w strings stored; in-order = misfit })
 
   -- refused by the first step
-  pub refused-first : accepts a ≡ false → Tests w blob strings name m (record { answer = a; offset = 0; added = 0; after = w })
+  pub refused-first : accepts a ≡ false → PropertyTested w blob strings name m (record { answer = a; offset = 0; added = 0; after = w })
   unfolding propertyAnswer propertyRows
   refused-first t = record {
     passed = λ h. absurd (true≢false (sym h ∙ t));
@@ -81,12 +81,12 @@ module _ (w : Record) (blob strings name : List ℕ) (m : Measured) {a : Answer}
         ∙ ap (λ (x : Record). first ((isFull (placeOf w strings name) ⇒ StringRoom) ∷ (overfull x ⇒ BlobRoom) ∷ [])) (after-of v k)
 
     room-passed : accepts b ≡ true → overfull after ≡ false
-    unfolding all ByName Refusals accepts
+    unfolding allAnswers ByName Refusals accepts
     room-passed h =
         let rows = (p .full ⇒ StringRoom) ∷ (overfull after ⇒ BlobRoom) ∷ [] in
         by-name rows (exactly rows refl .accepted .0 (sym says ∙ accepts-done b h)) (λ full over. over)
 
-    pub answered-second : Tests w blob strings name m (record { answer = b; offset = p .offset; added = p .added; after = after })
+    pub answered-second : PropertyTested w blob strings name m (record { answer = b; offset = p .offset; added = p .added; after = after })
     unfolding propertyAnswer propertyRows roundUp
     answered-second =
         let f = first-fits r in

@@ -62,7 +62,7 @@ pub record Passed (w : Record) (blob strings name : List ℕ) (m : Measured) (r 
   pub frame-fits : FrameFits (w .«blob_used») (r .offset) (m .len) (r .after .«blob_used») (length blob)
 
 -- the tests of a property: what they say holds of every value with these figures
-pub record Tests (w : Record) (blob strings name : List ℕ) (m : Measured) (r : Tested) : Type 0 where
+pub record PropertyTested (w : Record) (blob strings name : List ℕ) (m : Measured) (r : Tested) : Type 0 where
   pub passed : accepts (r .answer) ≡ true → Passed w blob strings name m r
   pub answered : (v : Value) → Measures m v → r .answer ≡ propertyAnswer w blob strings name v
   pub after-is : (v : Value) → Measures m v → accepts (r .answer) ≡ true → (misfitValue v ≡ false) × (r .after ≡ propertyRecord w strings name v)
@@ -77,6 +77,6 @@ pub record Unfilled (w : Record) (blob strings name : List ℕ) (v : Value) (at 
 pub record Placeholder (w : Record) (blob strings name : List ℕ) (v : Value) (r : Placed) (blobAfter stringsAfter : List ℕ) : Type 0 where
   pub result : r .outcome ≡ property w blob strings name v
   pub names : stringsAfter ≡ propertyStrings w blob strings name v
-  pub told : r .accepted ≡ accepts (r .outcome .answer)
+  pub accepts-is : r .accepted ≡ accepts (r .outcome .answer)
   pub refused : r .accepted ≡ false → blobAfter ≡ blob
   pub unfilled : r .accepted ≡ true → Unfilled w blob strings name v (r .at) blobAfter

@@ -9,7 +9,7 @@ ghost use Rattle.fdt_record.specs.Fields.{withUsedBlob, withUsedStrings};
 ghost use Rattle.fdt_record.specs.Misfits.{overfull};
 ghost use Rattle.fdt_record.specs.Rows.{_⇒_, first};
 ghost use Rattle.fdt_values.specs.Value.{Value, raw, cells, texts};
-ghost use Rattle.fdt_properties.specs.Placeholder.{PlaceIs, Measures, Tests, NameFits, storedAt, FrameFits, framed, Placeholder};
+ghost use Rattle.fdt_properties.specs.Placeholder.{PlaceIs, Measures, PropertyTested, NameFits, storedAt, FrameFits, framed, Placeholder};
 ghost use Rattle.fdt_properties.specs.Property.{placeOf, stateRows, nameRows, PropertyOutcome};
 use fdt_format::FDT_PROP;
 use fdt_record::Answer;
@@ -139,7 +139,7 @@ fn room_tests(full: bool, after: Record) -> Answer
 // All tests of a property, in their order.
 fn property_tests(w: Record, blob: &[u8], strings: &[u8], name: &[u8], value: Measured) -> Tested
     requires { ⌜ value .len < 2 ^ 63 + 2 ^ 62 ⌝ }
-    ensures { λ r. ⌜ Tests w (now (blob .entry)) (now (strings .entry)) (now (name .entry)) value r ⌝ }
+    ensures { λ r. ⌜ PropertyTested w (now (blob .entry)) (now (strings .entry)) (now (name .entry)) value r ⌝ }
 {
     let answer = first_tests(w, blob.len(), strings, name, value.misfit, value.zero);
     if !fdt_record::accepted(answer) {

@@ -10,7 +10,7 @@ use lib.ListN.{length}
 use Rattle.fdt_bytes.specs.BigEndian.{wideAt}
 use Rattle.fdt_format.specs.declared.Unreadable.the-variants as unreadable
 use Rattle.fdt_format.specs.Description.{Reservation}
-use Rattle.fdt_format.specs.Reading.{reservation, reservationsAt}
+use Rattle.fdt_format.specs.Reading.{withReservation, reservationsAt}
 use Rattle.fdt_read_header.specs.declared.Reservations.{Reservations}
 use Rattle.fdt_read_header.specs.declared.Reservations.the-variants.{Count, Refused}
 use Rattle.fdt_read_header.specs.Counted.{counted}
@@ -27,8 +27,8 @@ from-0 none = refl
 from-0 (some rs) = ap Count (omega arith)
 
 -- one reservation more in front
-one-more : (address size n : ℕ) (rs : Option (List Reservation)) → countedFrom n (reservation address size rs) ≡ countedFrom (n + 1) rs
-unfolding countedFrom reservation
+one-more : (address size n : ℕ) (rs : Option (List Reservation)) → countedFrom n (withReservation address size rs) ≡ countedFrom (n + 1) rs
+unfolding countedFrom withReservation
 one-more address size n none = refl
 one-more address size n (some rs) = ap Count (omega arith)
 
@@ -38,7 +38,7 @@ zeroPair b at = eqb (wideAt b at) 0 && eqb (wideAt b (at + 8)) 0
 
 module _ (b : List ℕ) (n left at : ℕ) where
   unrolled : 0 < left
-      → reservationsAt b left at ≡ cond (zeroPair b at) (some []) (reservation (wideAt b at) (wideAt b (at + 8)) (reservationsAt b (left - 1) (at + 16)))
+      → reservationsAt b left at ≡ cond (zeroPair b at) (some []) (withReservation (wideAt b at) (wideAt b (at + 8)) (reservationsAt b (left - 1) (at + 16)))
   unfolding reservationsAt
   unrolled more = let e : left ≡ suc (left - 1) = omega arith in ap (λ (m : ℕ). reservationsAt b m at) e
 
@@ -48,10 +48,10 @@ module _ (b : List ℕ) (n left at : ℕ) where
   ends-here more z = rw (unrolled more, z) (ap Count (omega arith))
 
   -- here is a reservation
-  pub goes-on : 0 < left → zeroPair b at ≡ false → countedFrom n (reservationsAt b left at) ≡ countedFrom (n + 1) (reservationsAt b (left - 1) (at + 16))
-  goes-on more z = rw (unrolled more, z) (one-more _ _ n _)
+  pub another-pair : 0 < left → zeroPair b at ≡ false → countedFrom n (reservationsAt b left at) ≡ countedFrom (n + 1) (reservationsAt b (left - 1) (at + 16))
+  another-pair more z = rw (unrolled more, z) (one-more _ _ n _)
 
   -- no pair is left
-  pub none-left : left ≡ 0 → countedFrom n (reservationsAt b left at) ≡ Refused unreadable.Reservations
+  pub no-pair-left : left ≡ 0 → countedFrom n (reservationsAt b left at) ≡ Refused unreadable.Reservations
   unfolding countedFrom reservationsAt
-  none-left e = rw e
+  no-pair-left e = rw e

@@ -13,6 +13,6 @@ pub record Inside (b : List ℕ) (a : Areas) : Type 0 where
   pub small : length b < 2 ^ 32
 
 -- a state inside the structure, with no more open nodes than bytes before it
-pub record Fits (a : Areas) (s : State) : Type 0 where
+pub record InStructure (a : Areas) (s : State) : Type 0 where
   pub within : s .at ≤ a .«structure_end»
   pub few : s .depth ≤ s .at

@@ -14,7 +14,7 @@ ghost use mathlib.Core.Path.{_≡_};
 ghost use Prim.Native.Nat.{_+_, _-_, _≤_, _<_, _^_};
 ghost use lib.ListN.{length};
 ghost use Rattle.fdt_format.specs.Step.{zeroFrom, sizeAt, beginAt, propertyAt, endAt, finalAt, stepAt};
-ghost use Rattle.fdt_read_token.specs.Inside.{Inside, Fits};
+ghost use Rattle.fdt_read_token.specs.Inside.{Inside, InStructure};
 
 // The first place from `at` on and before `end` that holds a 0; without one, the greater of `at` and `end`.
 pub fn zero_from(blob: &[u8], at: usize, end: usize) -> usize
@@ -29,7 +29,7 @@ pub fn zero_from(blob: &[u8], at: usize, end: usize) -> usize
 
 // Reads the beginning of a node. Its name and padding must end inside the structure.
 fn begin_at(blob: &[u8], a: Areas, s: State) -> Step
-    requires { ⌜ (s .at + 4 ≤ a .«structure_end») × (Inside (now blob) a × Fits a s) ⌝ }
+    requires { ⌜ (s .at + 4 ≤ a .«structure_end») × (Inside (now blob) a × InStructure a s) ⌝ }
     ensures { λ r. ⌜ r ≡ beginAt (now (blob .entry)) a s ⌝ }
 {
     let at = s.at;
@@ -78,7 +78,7 @@ pub fn property_size(blob: &[u8], at: usize, end: usize) -> usize
 
 // Reads a property. It must be whole inside the structure, and its name offset must meet a 0 inside the strings.
 fn property_at(blob: &[u8], a: Areas, s: State) -> Step
-    requires { ⌜ Inside (now blob) a × Fits a s ⌝ }
+    requires { ⌜ Inside (now blob) a × InStructure a s ⌝ }
     ensures { λ r. ⌜ r ≡ propertyAt (now (blob .entry)) a s ⌝ }
 {
     let at = s.at;
@@ -148,7 +148,7 @@ fn final_at(a: Areas, s: State) -> Step
 
 // Reads the token at a state.
 pub fn step_at(blob: &[u8], a: Areas, s: State) -> Step
-    requires { ⌜ Inside (now blob) a × Fits a s ⌝ }
+    requires { ⌜ Inside (now blob) a × InStructure a s ⌝ }
     ensures { λ r. ⌜ r ≡ stepAt (now (blob .entry)) a s ⌝ }
 {
     let at = s.at;

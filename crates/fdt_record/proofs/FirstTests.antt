@@ -10,18 +10,18 @@ use Rattle.fdt_record.specs.Rows.{first}
 use Rattle.fdt_record.specs.Tests.{aloneRows, blobRows, stringsRows}
 use Rattle.fdt_record.proofs.Answers.{accepts-done}
 use Rattle.fdt_record.proofs.Fits.{FitRecord, fit-record, FitBlob, fit-blob, FitStrings, fit-strings}
-use Rattle.fdt_record.proofs.Rows.{all, Refusals, ByName, by-name, exactly}
+use Rattle.fdt_record.proofs.Rows.{allAnswers, Refusals, ByName, by-name, exactly}
 
 pub alone-refusals : (w : Record) → Refusals (aloneRows w)
-unfolding aloneRows all Refusals accepts
+unfolding aloneRows allAnswers Refusals accepts
 alone-refusals w = refl
 
 pub blob-refusals : (w : Record) (lent : ℕ) → Refusals (blobRows w lent)
-unfolding blobRows aloneRows all Refusals accepts
+unfolding blobRows aloneRows allAnswers Refusals accepts
 blob-refusals w lent = refl
 
 pub strings-refusals : (w : Record) (lent : ℕ) (strings : List ℕ) → Refusals (stringsRows w lent strings)
-unfolding stringsRows blobRows aloneRows all Refusals accepts
+unfolding stringsRows blobRows aloneRows allAnswers Refusals accepts
 strings-refusals w lent strings = refl
 
 -- the tests of a record and a blob were passed

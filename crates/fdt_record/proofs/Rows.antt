@@ -41,31 +41,31 @@ by-name [] n f = f
 by-name ((b ⇒ a) ∷ rows) n f = by-name rows (n .1) (f (n .0))
 
 -- the test holds of every answer of the rows
-unfoldable pub all : (Answer → Bool) → List Row → Bool
-all p [] = true
-all p ((b ⇒ a) ∷ rows) = p a && all p rows
+unfoldable pub allAnswers : (Answer → Bool) → List Row → Bool
+allAnswers p [] = true
+allAnswers p ((b ⇒ a) ∷ rows) = p a && allAnswers p rows
 
 both : (a b : Bool) → (a && b) ≡ true → (a ≡ true) × (b ≡ true)
 both true b e = (refl, e)
 both false b e = absurd (true≢false (sym e))
 
 -- then it holds of the answer, if it holds of acceptance
-pub first-all : (p : Answer → Bool) (rows : List Row) → p Done ≡ true → all p rows ≡ true → p (first rows) ≡ true
-unfolding first all
-first-all p [] d e = d
-first-all p ((true ⇒ a) ∷ rows) d e = both (p a) (all p rows) e .0
-first-all p ((false ⇒ a) ∷ rows) d e = first-all p rows d (both (p a) (all p rows) e .1)
+pub first-answers : (p : Answer → Bool) (rows : List Row) → p Done ≡ true → allAnswers p rows ≡ true → p (first rows) ≡ true
+unfolding first allAnswers
+first-answers p [] d e = d
+first-answers p ((true ⇒ a) ∷ rows) d e = both (p a) (allAnswers p rows) e .0
+first-answers p ((false ⇒ a) ∷ rows) d e = first-answers p rows d (both (p a) (allAnswers p rows) e .1)
 
 -- every answer of the rows is a refusal
 abbrev refuses : Answer → Bool
 refuses a = not (accepts a)
 
 unfoldable pub Refusals : List Row → Type 0
-Refusals rows = all refuses rows ≡ true
+Refusals rows = allAnswers refuses rows ≡ true
 
-apart : (b : Bool) (a : Answer) (rows : List Row) → Refusals ((b ⇒ a) ∷ rows) → (accepts a ≡ false) × Refusals rows
-unfolding all Refusals
-apart b a rows r = let p = both (refuses a) (all refuses rows) r in (not-true (accepts a) (p .0), p .1)
+parts : (b : Bool) (a : Answer) (rows : List Row) → Refusals ((b ⇒ a) ∷ rows) → (accepts a ≡ false) × Refusals rows
+unfolding allAnswers Refusals
+parts b a rows r = let p = both (refuses a) (allAnswers refuses rows) r in (not-true (accepts a) (p .0), p .1)
 
 -- a refusal is given by a row that holds, after rows that do not
 pub record Given (rows : List Row) (a : Answer) : Type 0 where
@@ -79,9 +79,9 @@ accepted-exactly : (rows : List Row) → Refusals rows → (first rows ≡ Done)
 unfolding first NoneHolds accepts
 accepted-exactly [] r = (λ e. tt, λ n. refl)
 accepted-exactly ((true ⇒ a) ∷ rows) r =
-    (λ e. absurd (true≢false (ap accepts (sym e) ∙ apart true a rows r .0)), λ n. absurd (true≢false (n .0)))
+    (λ e. absurd (true≢false (ap accepts (sym e) ∙ parts true a rows r .0)), λ n. absurd (true≢false (n .0)))
 accepted-exactly ((false ⇒ a) ∷ rows) r =
-    let ih = accepted-exactly rows (apart false a rows r .1) in (λ e. (refl, ih .0 e), λ n. ih .1 (n .1))
+    let ih = accepted-exactly rows (parts false a rows r .1) in (λ e. (refl, ih .0 e), λ n. ih .1 (n .1))
 
 -- a refusal is the answer exactly when its row holds and no earlier one does
 refused-exactly : (rows : List Row) (a : Answer) → accepts a ≡ false → (first rows ≡ a) ↔ Given rows a
@@ -115,8 +115,8 @@ exactly rows r = record { accepted = accepted-exactly rows r; refused = refused-
 pub first-append : (rows more : List Row) → Refusals rows → first (rows ++ more) ≡ upon (first rows) (first more) (first rows)
 unfolding first accepts
 first-append [] more r = refl
-first-append ((true ⇒ a) ∷ rows) more r = sym (simp (apart true a rows r .0))
-first-append ((false ⇒ a) ∷ rows) more r = first-append rows more (apart false a rows r .1)
+first-append ((true ⇒ a) ∷ rows) more r = sym (simp (parts true a rows r .0))
+first-append ((false ⇒ a) ∷ rows) more r = first-append rows more (parts false a rows r .1)
 
 -- rows that answer alike, and later ones that do so where those accept
 pub append-same : (rows rows′ more more′ : List Row) → Refusals rows → Refusals rows′ → first rows ≡ first rows′ → (accepts (first rows) ≡ true → first more ≡ first more′) → first (rows ++ more) ≡ first (rows′ ++ more′)
@@ -126,10 +126,10 @@ append-same rows rows′ more more′ r r′ e f =
 
 -- one more misfit is one more refusal
 pub refusals-more : (rows : List Row) → Refusals rows → (b : Bool) → Refusals (rows ++ (b ⇒ Misfit) ∷ [])
-unfolding all Refusals accepts
+unfolding allAnswers Refusals accepts
 refusals-more [] r b = refl
 refusals-more ((c ⇒ a) ∷ rows) r b =
-    ap (λ (t : Bool). t && all refuses (rows ++ (b ⇒ Misfit) ∷ [])) (both (refuses a) (all refuses rows) r .0) ∙ refusals-more rows (apart c a rows r .1) b
+    ap (λ (t : Bool). t && allAnswers refuses (rows ++ (b ⇒ Misfit) ∷ [])) (both (refuses a) (allAnswers refuses rows) r .0) ∙ refusals-more rows (parts c a rows r .1) b
 
 -- Rows that gave an answer, and what follows them.
 module _ (rows : List Row) (refusals : Refusals rows) {a : Answer} (told : a ≡ first rows) where
@@ -144,8 +144,8 @@ module _ (rows : List Row) (refusals : Refusals rows) {a : Answer} (told : a ≡
       first-append rows more refusals ∙ upon-done (first rows) (first more) (first rows) (sym told ∙ accepts-done a r)
 
   -- what follows is one more misfit
-  pub one-more : {m b : Bool} → m ≡ b → upon a (cond m Misfit Done) a ≡ first (rows ++ (b ⇒ Misfit) ∷ [])
+  pub one-misfit-more : {m b : Bool} → m ≡ b → upon a (cond m Misfit Done) a ≡ first (rows ++ (b ⇒ Misfit) ∷ [])
   unfolding first
-  one-more {m} {b} e =
+  one-misfit-more {m} {b} e =
       ap (λ (x : Bool). upon a (cond x Misfit Done) a) e ∙ ap (λ (x : Answer). upon x (cond b Misfit Done) x) told
       ∙ sym (first-append rows ((b ⇒ Misfit) ∷ []) refusals)

@@ -15,7 +15,7 @@ use lib.Dec.{ltb}
 use lib.ListN.{length, getD, List·getD-eq-default}
 use Rattle.fdt_bytes.proofs.Tests.{same-test}
 use Rattle.fdt_reserve.specs.declared.FdtReserveEntry.{FdtReserveEntry}
-use Rattle.fdt_reserve.specs.Overlap.{start, size, entryAt, LiesIn, Overlap, some, share, overlapping}
+use Rattle.fdt_reserve.specs.Overlap.{start, size, entryAt, LiesIn, Overlap, someBelow, share, overlapping}
 
 module _ (a s b t : ℕ) where
   -- ranges that share an address
@@ -57,26 +57,26 @@ module _ (a s b t : ℕ) (later : a ≤ b) where
 
 -- A test that is true of some number below n.
 module _ (test : ℕ → Bool) where
-  pub some-at : (n k : ℕ) → k < n → test k ≡ true → some n test ≡ true
-  unfolding some
+  pub some-at : (n k : ℕ) → k < n → test k ≡ true → someBelow n test ≡ true
+  unfolding someBelow
   some-at zero k h e = absurd (not-suc-le-zero h)
   some-at (suc n) k h e = go (decLt k n) (λ l. some-at n k l e)
     where
-      go : Dec (k < n) → (k < n → some n test ≡ true) → (test n || some n test) ≡ true
+      go : Dec (k < n) → (k < n → someBelow n test ≡ true) → (test n || someBelow n test) ≡ true
       go (yes l) f = simp (f l, or-true)
       go (no m) f = let q : k ≡ n = omega arith in simp (ap test (sym q) ∙ e)
 
   -- one more number for which it is false
-  pub some-more : (n : ℕ) → some n test ≡ false → test n ≡ false → some (n + 1) test ≡ false
-  unfolding some
+  pub some-more : (n : ℕ) → someBelow n test ≡ false → test n ≡ false → someBelow (n + 1) test ≡ false
+  unfolding someBelow
   some-more n h e = rw (add-one n) (simp (e, h))
 
-  pub where-some : (n : ℕ) → some n test ≡ true → (k : ℕ) × (k < n) × (test k ≡ true)
-  unfolding some
+  pub where-some : (n : ℕ) → someBelow n test ≡ true → (k : ℕ) × (k < n) × (test k ≡ true)
+  unfolding someBelow
   where-some zero e = absurd (true≢false (sym e))
   where-some (suc n) e = go (test n) refl (where-some n) e
     where
-      go : (t : Bool) → test n ≡ t → (some n test ≡ true → (k : ℕ) × (k < n) × (test k ≡ true)) → (t || some n test) ≡ true
+      go : (t : Bool) → test n ≡ t → (someBelow n test ≡ true → (k : ℕ) × (k < n) × (test k ≡ true)) → (t || someBelow n test) ≡ true
           → (k : ℕ) × (k < suc n) × (test k ≡ true)
       go true q f e = (n, omega arith, q)
       go false q f e = let w = f e in (w .0, omega (arith, w .1), w .2)
@@ -153,14 +153,14 @@ module _ (numbers : List ℕ) where
     where
       told : overlapping numbers ≡ true → Overlap numbers
       told e =
-          let w = where-some (λ k. some k (λ j. meets j k)) (length numbers / 2) e in
+          let w = where-some (λ k. someBelow k (λ j. meets j k)) (length numbers / 2) e in
           let v = where-some (λ j. meets j (w .0)) (w .0) (w .2) in
           clash (v .0) (w .0) (λ q. omega (arith, v .1, q)) (v .2)
 
       holds : Overlap numbers → overlapping numbers ≡ true
       holds o =
           let w = ordered o in
-          some-at (λ k. some k (λ j. meets j k)) (length numbers / 2) (w .1) (w .3)
+          some-at (λ k. someBelow k (λ j. meets j k)) (length numbers / 2) (w .1) (w .3)
           (some-at (λ j. meets j (w .1)) (w .1) (w .0) (w .2) (w .4))
 
   -- an exact test of overlap is the computed one

@@ -35,9 +35,9 @@ pub record Overlap (numbers : List ℕ) : Type 0 where
   pub inOther : LiesIn numbers other address
 
 -- the test is true of some number below n
-unfoldable pub some : ℕ → (ℕ → Bool) → Bool
-some zero test = false
-some (suc n) test = test n || some n test
+unfoldable pub someBelow : ℕ → (ℕ → Bool) → Bool
+someBelow zero test = false
+someBelow (suc n) test = test n || someBelow n test
 
 -- two ranges, each given by its start and size, share an address: the greater start lies in both
 unfoldable pub share : ℕ → ℕ → ℕ → ℕ → Bool
@@ -46,4 +46,4 @@ share a s b t = ltb (max a b) (a + s) && ltb (max a b) (b + t)
 -- two of the reservations share an address: `Overlap` as a test that can be computed
 unfoldable pub overlapping : List ℕ → Bool
 overlapping numbers =
-    some (length numbers / 2) (λ k. some k (λ j. share (start numbers j) (size numbers j) (start numbers k) (size numbers k)))
+    someBelow (length numbers / 2) (λ k. someBelow k (λ j. share (start numbers j) (size numbers j) (start numbers k) (size numbers k)))

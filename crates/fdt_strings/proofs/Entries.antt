@@ -45,9 +45,9 @@ ne-same s t h = go (same s t) refl
 -- ---- strings split into entries
 
 -- no entry has a byte 0
-pub data Plain : List (List ℕ) → Type 0 where
-  no-entry : Plain []
-  next-entry : {e : List ℕ} {es : List (List ℕ)} → NoZero e → Plain es → Plain (e ∷ es)
+pub data PlainNames : List (List ℕ) → Type 0 where
+  no-entry : PlainNames []
+  next-entry : {e : List ℕ} {es : List (List ℕ)} → NoZero e → PlainNames es → PlainNames (e ∷ es)
 
 pub length-entry : (name : List ℕ) → length (entry name) ≡ length name + 1
 unfolding entry
@@ -81,12 +81,12 @@ entries-none (b ∷ s) h = go (eqb b 0) (indexOf 0 s) (entries s) (λ k. entries
     go true n es more h = absurd (omega arith)
     go false n es more h = ap (withByte b) (more (omega arith))
 
-pub entries-plain : (s : List ℕ) → Plain (entries s)
+pub entries-plain : (s : List ℕ) → PlainNames (entries s)
 unfolding entries withByte
 entries-plain [] = no-entry
 entries-plain (b ∷ s) = go (eqb b 0) refl (entries s) (entries-plain s)
   where
-    go : (z : Bool) → eqb b 0 ≡ z → (es : List (List ℕ)) → Plain es → Plain (cond z ([] ∷ es) (withByte b es))
+    go : (z : Bool) → eqb b 0 ≡ z → (es : List (List ℕ)) → PlainNames es → PlainNames (cond z ([] ∷ es) (withByte b es))
     go true e es p = next-entry no-byte p
     go false e [] p = no-entry
     go false e (x ∷ es) (next-entry n p) = let h : 0 < b = omega (arith, eqb-false b 0 e) in next-entry (next-byte h n) p
@@ -98,7 +98,7 @@ unfolding joined
 joined-append [] fs = refl
 joined-append (e ∷ es) fs = simp (joined-append es fs, append-assoc)
 
-pub entries-joined : {es : List (List ℕ)} → Plain es → entries (joined es) ≡ es
+pub entries-joined : {es : List (List ℕ)} → PlainNames es → entries (joined es) ≡ es
 unfolding joined entry entries
 entries-joined no-entry = refl
 entries-joined (next-entry {e = e} {es = es} n p) =
@@ -246,7 +246,7 @@ among k (e ∷ es) name i h = go (same e name) refl (λ r. among (k + (length e 
           first = simp f (a .first);
         }
 
-plain-at : (es fs : List (List ℕ)) (e : List ℕ) → Plain (es ++ e ∷ fs) → Plain es × NoZero e
+plain-at : (es fs : List (List ℕ)) (e : List ℕ) → PlainNames (es ++ e ∷ fs) → PlainNames es × NoZero e
 plain-at [] fs e (next-entry n p) = (no-entry, n)
 plain-at (x ∷ es) fs e (next-entry n p) = let q = plain-at es fs e p in (next-entry n (q .0), q .1)
 

@@ -11,7 +11,7 @@ use lib.Dec.{leb}
 use Rattle.fdt_bytes.specs.Splice.{over, splice}
 use Rattle.fdt_bytes.proofs.Splice.{length-splice, splice-splice, lent, set-splice}
 use Rattle.fdt_strings.specs.Entries.{entry, findString}
-use Rattle.fdt_strings.specs.Interned.{place, orElse, interned}
+use Rattle.fdt_strings.specs.Interned.{newName, orElse, interned}
 use Rattle.fdt_strings.specs.declared.Found.{Found}
 use Rattle.fdt_strings.specs.declared.Found.the-variants.{At, Nothing}
 use Rattle.fdt_strings.specs.declared.Interned.the-variants.{Known, New, StringRoom}
@@ -24,22 +24,22 @@ module _ (used name : List ℕ) (room : ℕ) where
 
   module _ (h : findString used name ≡ Nothing) where
     pub interned-new : length used + length name < room → interned used room name ≡ New (length used)
-    unfolding interned orElse place
+    unfolding interned orElse newName
     interned-new k = simp (h, le-leb (length used + length (entry name)) room (omega (arith, length-entry name)))
 
     pub interned-full : room ≤ length used + length name → interned used room name ≡ StringRoom
-    unfolding interned orElse place
+    unfolding interned orElse newName
     interned-full k = simp (h, lt-leb (length used + length (entry name)) room (omega (arith, length-entry name)))
 
 -- what `New` says: the name is not found, and it fits with its 0 at the end of the used strings
-pub record Placed (used : List ℕ) (room : ℕ) (name : List ℕ) (offset : ℕ) : Type 0 where
+pub record NewPlace (used : List ℕ) (room : ℕ) (name : List ℕ) (offset : ℕ) : Type 0 where
   pub absent : findString used name ≡ Nothing
   pub place : length used ≡ offset
   pub fits : offset + length (entry name) ≤ room
 
 module _ (used name : List ℕ) (room offset : ℕ) where
   pub known-found : interned used room name ≡ Known offset → findString used name ≡ At offset
-  unfolding interned orElse place
+  unfolding interned orElse newName
   known-found h = go (findString used name) (leb (length used + length (entry name)) room) h
     where
       go : (f : Found) (z : Bool) → orElse f (cond z (New (length used)) StringRoom) ≡ Known offset → f ≡ At offset
@@ -47,13 +47,13 @@ module _ (used name : List ℕ) (room offset : ℕ) where
       go Nothing true h = cc
       go Nothing false h = cc
 
-  pub new-placed : interned used room name ≡ New offset → Placed used room name offset
-  unfolding interned orElse place
+  pub new-placed : interned used room name ≡ New offset → NewPlace used room name offset
+  unfolding interned orElse newName
   new-placed h = go (findString used name) refl (leb (length used + length (entry name)) room) refl h
     where
       go :
           (f : Found) → findString used name ≡ f → (z : Bool) → leb (length used + length (entry name)) room ≡ z →
-          orElse f (cond z (New (length used)) StringRoom) ≡ New offset → Placed used room name offset
+          orElse f (cond z (New (length used)) StringRoom) ≡ New offset → NewPlace used room name offset
       go (At i) e z k h = let n : _≡_ {A = ℕ} 0 1 = cc in absurd (omega arith)
       go Nothing e true k h =
           let p : length used ≡ offset = cc in

@@ -11,8 +11,8 @@ use Rattle.fdt_strings.specs.declared.Interned.the-variants.{Known, New,
 use Rattle.fdt_strings.specs.Entries.{entry, findString}
 
 -- the offset for a new name: the end of the used strings, if the name and its 0 fit within the room
-unfoldable pub place : List ℕ → ℕ → List ℕ → Interned
-place used room name = cond (leb (length used + length (entry name)) room) (New (length used)) StringRoom
+unfoldable pub newName : List ℕ → ℕ → List ℕ → Interned
+newName used room name = cond (leb (length used + length (entry name)) room) (New (length used)) StringRoom
 
 -- a name that was found is known; otherwise the other result
 unfoldable pub orElse : Found → Interned → Interned
@@ -21,7 +21,7 @@ orElse Nothing other = other
 
 -- what `intern_string` returns: the name is found in the used strings, or is placed after them
 unfoldable pub interned : List ℕ → ℕ → List ℕ → Interned
-interned used room name = orElse (findString used name) (place used room name)
+interned used room name = orElse (findString used name) (newName used room name)
 
 -- document 01's number of a result
 unfoldable pub numberOf : Interned → ℕ

@@ -13,27 +13,27 @@ use Rattle.fdt_values.specs.Value.{textBytes, sum}
 use Rattle.fdt_values.proofs.Values.{sum-more, sum-within, texts-more, length-texts-within}
 
 -- the first i strings have been written: the next one starts at `start` among the joined bytes, and goes to `to`
-pub record Written (at : ℕ) (joined lengths before now : List ℕ) (to start i : ℕ) : Type 0 where
+pub record TextsWritten (at : ℕ) (joined lengths before now : List ℕ) (to start i : ℕ) : Type 0 where
   pub within : i ≤ length lengths
   pub starts : start ≡ sum (take i lengths)
   pub goes : to ≡ at + (start + i)
   pub kept : length now ≡ length before
   pub blob-is : now ≡ splice at (textBytes joined (take i lengths)) before
 
-pub written-none : {at : ℕ} {joined lengths before : List ℕ} → Written at joined lengths before before at 0 0
+pub texts-written-none : {at : ℕ} {joined lengths before : List ℕ} → TextsWritten at joined lengths before before at 0 0
 unfolding splice over textBytes sum
-written-none {at} {before = before} =
+texts-written-none {at} {before = before} =
     record { within = omega arith; starts = refl; goes = omega arith; kept = refl; blob-is = sym (take-append-drop at before) }
 
-pub written-all : {at : ℕ} {joined lengths before now : List ℕ} {to start i : ℕ} → Written at joined lengths before now to start i → length lengths ≤ i → now ≡ splice at (textBytes joined lengths) before
-written-all {at} {joined} {lengths} {before} {i = i} w h =
+pub texts-written-all : {at : ℕ} {joined lengths before now : List ℕ} {to start i : ℕ} → TextsWritten at joined lengths before now to start i → length lengths ≤ i → now ≡ splice at (textBytes joined lengths) before
+texts-written-all {at} {joined} {lengths} {before} {i = i} w h =
     w .blob-is ∙ ap (λ (l : List ℕ). splice at (textBytes joined l) before) (take-all i lengths h)
 
 -- the string at i, from `start` to where the next one starts, with its 0
 abbrev pub cut : (joined lengths : List ℕ) (start i : ℕ) → List ℕ
 cut joined lengths start i = entry (take (start + getD lengths i 0 - start) (drop start joined))
 
-module _ {at : ℕ} {joined lengths before now : List ℕ} {to start i : ℕ} (room : (sum lengths ≡ length joined) × (at + (length joined + length lengths) ≤ length before)) (w : Written at joined lengths before now to start i) (next : i < length lengths) where
+module _ {at : ℕ} {joined lengths before now : List ℕ} {to start i : ℕ} (room : (sum lengths ≡ length joined) × (at + (length joined + length lengths) ≤ length before)) (w : TextsWritten at joined lengths before now to start i) (next : i < length lengths) where
   -- the next string ends within the joined bytes
   pub next-within : start + getD lengths i 0 ≤ length joined
   next-within = omega (arith, sum-more lengths i next, sum-within (i + 1) lengths)
@@ -53,8 +53,8 @@ module _ {at : ℕ} {joined lengths before now : List ℕ} {to start i : ℕ} (r
       omega (arith, length-texts-within joined (take i lengths) (omega (arith, sum-within i lengths)), length-take-le i lengths (w .within))
 
   -- the turn that stores it
-  pub written-more : {after : List ℕ} → after ≡ splice to (cut joined lengths start i) now → Written at joined lengths before after (to + (start + getD lengths i 0 - start + 1)) (start + getD lengths i 0) (i + 1)
-  written-more {after} e =
+  pub texts-written-more : {after : List ℕ} → after ≡ splice to (cut joined lengths start i) now → TextsWritten at joined lengths before after (to + (start + getD lengths i 0 - start + 1)) (start + getD lengths i 0) (i + 1)
+  texts-written-more {after} e =
       let n = getD lengths i 0 in
       let first = textBytes joined (take i lengths) in
       let one = entry (take n (drop start joined)) in

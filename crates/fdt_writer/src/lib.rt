@@ -5,8 +5,8 @@ ghost use Prim.Native.Nat.{ℕ};
 ghost use Rattle.fdt_record.specs.declared.Answer.the-variants.{Done};
 ghost use Rattle.fdt_record.specs.declared.Record.{Record};
 ghost use Rattle.fdt_calls.specs.Calls.{new, new-with-mem-reserv, set-boot-cpuid-phys, begin-node, end-node, property, property-null, property-string, property-string-list, property-u32, property-u64, property-array-u32, property-array-u64, property-phandle, finish, show};
-ghost use Rattle.fdt_calls.specs.Called.{desk, Called, handleOf, shownPart};
-ghost use Rattle.fdt_writer.specs.Told.{told, begun};
+ghost use Rattle.fdt_calls.specs.Called.{deskOf, Called, handleOf, shownPart};
+ghost use Rattle.fdt_writer.specs.Outcomes.{outcomeOf, begunOf};
 use fdt_nodes::Begun;
 use fdt_nodes::FdtWriterNode;
 use fdt_record::Answer;
@@ -32,7 +32,7 @@ pub struct NodeAnswered {
 
 // The outcome of a call on the record, with the record as a writer.
 fn wrapped(o: Outcome) -> Answered
-    ensures { λ r. ⌜ told r ≡ o ⌝ }
+    ensures { λ r. ⌜ outcomeOf r ≡ o ⌝ }
 {
     let answer = o.answer;
     let after = o.after;
@@ -44,7 +44,7 @@ fn wrapped(o: Outcome) -> Answered
 
 // The same for beginning a node.
 fn wrapped_node(o: Begun) -> NodeAnswered
-    ensures { λ r. ⌜ begun r ≡ o ⌝ }
+    ensures { λ r. ⌜ begunOf r ≡ o ⌝ }
 {
     let answer = o.answer;
     let handle = o.handle;
@@ -62,7 +62,7 @@ impl FdtWriter {
     // Opens a writer over a blob buffer, a string buffer and a table of phandles, with no memory reservations.
     // Refused 14 only. A refused opening returns a closed writer, which every call except `show` refuses.
     pub fn new(blob: &mut [u8], strings: &[u8], phandles: &[u32]) -> Answered
-        ensures { λ r. ⌜ ((w : Record) → Called new (desk w (now (blob .entry)) (now (strings .entry)) (now (phandles .entry))) (r .answer) (desk (r .writer .0) (now (blob .exit)) (now (strings .entry)) (now (phandles .entry)))) ⌝ }
+        ensures { λ r. ⌜ ((w : Record) → Called new (deskOf w (now (blob .entry)) (now (strings .entry)) (now (phandles .entry))) (r .answer) (deskOf (r .writer .0) (now (blob .exit)) (now (strings .entry)) (now (phandles .entry)))) ⌝ }
     {
         FdtWriter::new_with_mem_reserv(blob, strings, phandles, &[])
     }
@@ -75,7 +75,7 @@ impl FdtWriter {
         phandles: &[u32],
         mem_reservations: &[u64],
     ) -> Answered
-        ensures { λ r. ⌜ ((w : Record) → Called (new-with-mem-reserv (now («mem_reservations» .entry))) (desk w (now (blob .entry)) (now (strings .entry)) (now (phandles .entry))) (r .answer) (desk (r .writer .0) (now (blob .exit)) (now (strings .entry)) (now (phandles .entry)))) ⌝ }
+        ensures { λ r. ⌜ ((w : Record) → Called (new-with-mem-reserv (now («mem_reservations» .entry))) (deskOf w (now (blob .entry)) (now (strings .entry)) (now (phandles .entry))) (r .answer) (deskOf (r .writer .0) (now (blob .exit)) (now (strings .entry)) (now (phandles .entry)))) ⌝ }
     {
         wrapped(fdt_opening::open(blob, strings, phandles, mem_reservations))
     }
@@ -83,7 +83,7 @@ impl FdtWriter {
     // Sets the boot processor's number in the header.
     // Refused 18, 17, in this order.
     pub fn set_boot_cpuid_phys(self, boot_cpuid_phys: u32) -> Answered
-        ensures { λ r. ⌜ ((blob strings phandles : List ℕ) → Called (set-boot-cpuid-phys «boot_cpuid_phys») (desk (self .0) blob strings phandles) (r .answer) (desk (r .writer .0) blob strings phandles)) ⌝ }
+        ensures { λ r. ⌜ ((blob strings phandles : List ℕ) → Called (set-boot-cpuid-phys «boot_cpuid_phys») (deskOf (self .0) blob strings phandles) (r .answer) (deskOf (r .writer .0) blob strings phandles)) ⌝ }
     {
         wrapped(fdt_finish::set_boot_cpuid_phys(self.0, boot_cpuid_phys))
     }
@@ -91,7 +91,7 @@ impl FdtWriter {
     // Begins a node inside the open one, and returns its handle.
     // Refused 18, 17, 12, 5, 10, 14, in this order.
     pub fn begin_node(self, blob: &mut [u8], name: &[u8]) -> NodeAnswered
-        ensures { λ r. ⌜ ((strings phandles : List ℕ) → Called (begin-node (now (name .entry))) (desk (self .0) (now (blob .entry)) strings phandles) (r .answer) (desk (r .writer .0) (now (blob .exit)) strings phandles) × (r .handle ≡ handleOf (desk (self .0) (now (blob .entry)) strings phandles) (now (name .entry)))) ⌝ }
+        ensures { λ r. ⌜ ((strings phandles : List ℕ) → Called (begin-node (now (name .entry))) (deskOf (self .0) (now (blob .entry)) strings phandles) (r .answer) (deskOf (r .writer .0) (now (blob .exit)) strings phandles) × (r .handle ≡ handleOf (deskOf (self .0) (now (blob .entry)) strings phandles) (now (name .entry)))) ⌝ }
     {
         wrapped_node(fdt_nodes::begin_node(self.0, blob, name))
     }
@@ -99,7 +99,7 @@ impl FdtWriter {
     // Ends the open node, whose handle must be given.
     // Refused 18, 17, 6, 14, in this order.
     pub fn end_node(self, blob: &mut [u8], node: FdtWriterNode) -> Answered
-        ensures { λ r. ⌜ ((strings phandles : List ℕ) → Called (end-node (node .0)) (desk (self .0) (now (blob .entry)) strings phandles) (r .answer) (desk (r .writer .0) (now (blob .exit)) strings phandles)) ⌝ }
+        ensures { λ r. ⌜ ((strings phandles : List ℕ) → Called (end-node (node .0)) (deskOf (self .0) (now (blob .entry)) strings phandles) (r .answer) (deskOf (r .writer .0) (now (blob .exit)) strings phandles)) ⌝ }
     {
         wrapped(fdt_nodes::end_node(self.0, blob, node))
     }
@@ -107,7 +107,7 @@ impl FdtWriter {
     // Writes a property of the open node: a name and the bytes of its value.
     // Refused 18, 17, 2, 1, 5, 11, 15, 14, in this order.
     pub fn property(self, blob: &mut [u8], strings: &mut [u8], name: &[u8], val: &[u8]) -> Answered
-        ensures { λ r. ⌜ ((phandles : List ℕ) → Called (property (now (name .entry)) (now (val .entry))) (desk (self .0) (now (blob .entry)) (now (strings .entry)) phandles) (r .answer) (desk (r .writer .0) (now (blob .exit)) (now (strings .exit)) phandles)) ⌝ }
+        ensures { λ r. ⌜ ((phandles : List ℕ) → Called (property (now (name .entry)) (now (val .entry))) (deskOf (self .0) (now (blob .entry)) (now (strings .entry)) phandles) (r .answer) (deskOf (r .writer .0) (now (blob .exit)) (now (strings .exit)) phandles)) ⌝ }
     {
         wrapped(fdt_properties::write_bytes(self.0, blob, strings, name, val))
     }
@@ -115,7 +115,7 @@ impl FdtWriter {
     // Writes a property with an empty value.
     // Refused 18, 17, 2, 1, 5, 11, 15, 14, in this order.
     pub fn property_null(self, blob: &mut [u8], strings: &mut [u8], name: &[u8]) -> Answered
-        ensures { λ r. ⌜ ((phandles : List ℕ) → Called (property-null (now (name .entry))) (desk (self .0) (now (blob .entry)) (now (strings .entry)) phandles) (r .answer) (desk (r .writer .0) (now (blob .exit)) (now (strings .exit)) phandles)) ⌝ }
+        ensures { λ r. ⌜ ((phandles : List ℕ) → Called (property-null (now (name .entry))) (deskOf (self .0) (now (blob .entry)) (now (strings .entry)) phandles) (r .answer) (deskOf (r .writer .0) (now (blob .exit)) (now (strings .exit)) phandles)) ⌝ }
     {
         self.property(blob, strings, name, &[])
     }
@@ -129,7 +129,7 @@ impl FdtWriter {
         name: &[u8],
         val: &[u8],
     ) -> Answered
-        ensures { λ r. ⌜ ((phandles : List ℕ) → Called (property-string (now (name .entry)) (now (val .entry))) (desk (self .0) (now (blob .entry)) (now (strings .entry)) phandles) (r .answer) (desk (r .writer .0) (now (blob .exit)) (now (strings .exit)) phandles)) ⌝ }
+        ensures { λ r. ⌜ ((phandles : List ℕ) → Called (property-string (now (name .entry)) (now (val .entry))) (deskOf (self .0) (now (blob .entry)) (now (strings .entry)) phandles) (r .answer) (deskOf (r .writer .0) (now (blob .exit)) (now (strings .exit)) phandles)) ⌝ }
     {
         self.property_string_list(blob, strings, name, val, &[val.len()])
     }
@@ -144,7 +144,7 @@ impl FdtWriter {
         values: &[u8],
         lengths: &[usize],
     ) -> Answered
-        ensures { λ r. ⌜ ((phandles : List ℕ) → Called (property-string-list (now (name .entry)) (now (values .entry)) (now (lengths .entry))) (desk (self .0) (now (blob .entry)) (now (strings .entry)) phandles) (r .answer) (desk (r .writer .0) (now (blob .exit)) (now (strings .exit)) phandles)) ⌝ }
+        ensures { λ r. ⌜ ((phandles : List ℕ) → Called (property-string-list (now (name .entry)) (now (values .entry)) (now (lengths .entry))) (deskOf (self .0) (now (blob .entry)) (now (strings .entry)) phandles) (r .answer) (deskOf (r .writer .0) (now (blob .exit)) (now (strings .exit)) phandles)) ⌝ }
     {
         wrapped(fdt_properties::write_texts(self.0, blob, strings, name, values, lengths))
     }
@@ -158,7 +158,7 @@ impl FdtWriter {
         name: &[u8],
         val: u32,
     ) -> Answered
-        ensures { λ r. ⌜ ((phandles : List ℕ) → Called (property-u32 (now (name .entry)) val) (desk (self .0) (now (blob .entry)) (now (strings .entry)) phandles) (r .answer) (desk (r .writer .0) (now (blob .exit)) (now (strings .exit)) phandles)) ⌝ }
+        ensures { λ r. ⌜ ((phandles : List ℕ) → Called (property-u32 (now (name .entry)) val) (deskOf (self .0) (now (blob .entry)) (now (strings .entry)) phandles) (r .answer) (deskOf (r .writer .0) (now (blob .exit)) (now (strings .exit)) phandles)) ⌝ }
     {
         self.property_array_u32(blob, strings, name, &[val])
     }
@@ -172,7 +172,7 @@ impl FdtWriter {
         name: &[u8],
         val: u64,
     ) -> Answered
-        ensures { λ r. ⌜ ((phandles : List ℕ) → Called (property-u64 (now (name .entry)) val) (desk (self .0) (now (blob .entry)) (now (strings .entry)) phandles) (r .answer) (desk (r .writer .0) (now (blob .exit)) (now (strings .exit)) phandles)) ⌝ }
+        ensures { λ r. ⌜ ((phandles : List ℕ) → Called (property-u64 (now (name .entry)) val) (deskOf (self .0) (now (blob .entry)) (now (strings .entry)) phandles) (r .answer) (deskOf (r .writer .0) (now (blob .exit)) (now (strings .exit)) phandles)) ⌝ }
     {
         self.property_array_u64(blob, strings, name, &[val])
     }
@@ -186,7 +186,7 @@ impl FdtWriter {
         name: &[u8],
         numbers: &[u32],
     ) -> Answered
-        ensures { λ r. ⌜ ((phandles : List ℕ) → Called (property-array-u32 (now (name .entry)) (now (numbers .entry))) (desk (self .0) (now (blob .entry)) (now (strings .entry)) phandles) (r .answer) (desk (r .writer .0) (now (blob .exit)) (now (strings .exit)) phandles)) ⌝ }
+        ensures { λ r. ⌜ ((phandles : List ℕ) → Called (property-array-u32 (now (name .entry)) (now (numbers .entry))) (deskOf (self .0) (now (blob .entry)) (now (strings .entry)) phandles) (r .answer) (deskOf (r .writer .0) (now (blob .exit)) (now (strings .exit)) phandles)) ⌝ }
     {
         wrapped(fdt_properties::write_cells(self.0, blob, strings, name, numbers))
     }
@@ -200,7 +200,7 @@ impl FdtWriter {
         name: &[u8],
         numbers: &[u64],
     ) -> Answered
-        ensures { λ r. ⌜ ((phandles : List ℕ) → Called (property-array-u64 (now (name .entry)) (now (numbers .entry))) (desk (self .0) (now (blob .entry)) (now (strings .entry)) phandles) (r .answer) (desk (r .writer .0) (now (blob .exit)) (now (strings .exit)) phandles)) ⌝ }
+        ensures { λ r. ⌜ ((phandles : List ℕ) → Called (property-array-u64 (now (name .entry)) (now (numbers .entry))) (deskOf (self .0) (now (blob .entry)) (now (strings .entry)) phandles) (r .answer) (deskOf (r .writer .0) (now (blob .exit)) (now (strings .exit)) phandles)) ⌝ }
     {
         wrapped(fdt_properties::write_wide_cells(self.0, blob, strings, name, numbers))
     }
@@ -214,7 +214,7 @@ impl FdtWriter {
         phandles: &mut [u32],
         val: u32,
     ) -> Answered
-        ensures { λ r. ⌜ Called (property-phandle val) (desk (self .0) (now (blob .entry)) (now (strings .entry)) (now (phandles .entry))) (r .answer) (desk (r .writer .0) (now (blob .exit)) (now (strings .exit)) (now (phandles .exit))) ⌝ }
+        ensures { λ r. ⌜ Called (property-phandle val) (deskOf (self .0) (now (blob .entry)) (now (strings .entry)) (now (phandles .entry))) (r .answer) (deskOf (r .writer .0) (now (blob .exit)) (now (strings .exit)) (now (phandles .exit))) ⌝ }
     {
         wrapped(fdt_phandles::property_phandle(self.0, blob, strings, phandles, val))
     }
@@ -222,7 +222,7 @@ impl FdtWriter {
     // Finishes the blob: writes the last word, the strings and the header.
     // Refused 18, 17, 7, 14, in this order.
     pub fn finish(self, blob: &mut [u8], strings: &[u8]) -> Answered
-        ensures { λ r. ⌜ ((phandles : List ℕ) → Called finish (desk (self .0) (now (blob .entry)) (now (strings .entry)) phandles) (r .answer) (desk (r .writer .0) (now (blob .exit)) (now (strings .entry)) phandles)) ⌝ }
+        ensures { λ r. ⌜ ((phandles : List ℕ) → Called finish (deskOf (self .0) (now (blob .entry)) (now (strings .entry)) phandles) (r .answer) (deskOf (r .writer .0) (now (blob .exit)) (now (strings .entry)) phandles)) ⌝ }
     {
         wrapped(fdt_finish::finish(self.0, blob, strings))
     }
@@ -230,7 +230,7 @@ impl FdtWriter {
     // Shows the finished blob, which is the front of the lent buffer. If the writer is not finished, or does not fit the buffer, shows an empty part.
     // Never refused.
     pub fn show(self, blob: &[u8]) -> &[u8]
-        ensures { λ r. ⌜ ((strings phandles : List ℕ) → Called show (desk (self .0) (now (blob .entry)) strings phandles) Done (desk (self .0) (now (blob .entry)) strings phandles) × (now r ≡ shownPart (desk (self .0) (now (blob .entry)) strings phandles))) ⌝ }
+        ensures { λ r. ⌜ ((strings phandles : List ℕ) → Called show (deskOf (self .0) (now (blob .entry)) strings phandles) Done (deskOf (self .0) (now (blob .entry)) strings phandles) × (now r ≡ shownPart (deskOf (self .0) (now (blob .entry)) strings phandles))) ⌝ }
     {
         fdt_finish::show(self.0, blob)
     }

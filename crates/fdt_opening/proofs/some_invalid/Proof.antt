@@ -4,7 +4,7 @@ use mathlib.Core.Bool.{false}
 use Prim.Native.Nat.{_-_, _/_, _≤_}
 use lib.ListN.{length}
 use Rattle.fdt_reserve.specs.Entry.{invalid}
-use Rattle.fdt_reserve.specs.Overlap.{start, size, some}
+use Rattle.fdt_reserve.specs.Overlap.{start, size, someBelow}
 use Rattle.fdt_reserve.proofs.Entry.{refused-invalid, taken-valid}
 use Rattle.fdt_reserve.proofs.Overlap.{some-at, some-more}
 use Rattle.fdt_opening.specs.Opening.{someInvalid}
@@ -14,13 +14,13 @@ use Rattle.fdt_opening.proofs.some_invalid.Statement.{statement}
 use Rattle.fdt_opening.proofs.some_invalid.Tie as tie
 
 abbrev Inv-loop : tie.InvT-loop
-Inv-loop mem-reservations n i₀ i = (i ≤ n) × (some i (λ k. invalid (start mem-reservations k) (size mem-reservations k)) ≡ false)
+Inv-loop mem-reservations n i₀ i = (i ≤ n) × (someBelow i (λ k. invalid (start mem-reservations k) (size mem-reservations k)) ≡ false)
 
 abbrev μ-loop : tie.MeasureT-loop
 μ-loop mem-reservations n i₀ i = n - i
 
 loop-holds : tie.Need-loop-holds Inv-loop μ-loop
-unfolding some
+unfolding someBelow
 loop-holds c = (search needs, refl)
 
 returns : tie.Need-returns Inv-loop μ-loop

@@ -14,7 +14,7 @@ use Rattle.fdt_record.specs.Tests.{aloneRows, blobRows, stringsRows}
 use Rattle.fdt_record.proofs.Answers.{accepts-done}
 use Rattle.fdt_record.proofs.FirstTests.{strings-refusals}
 use Rattle.fdt_record.proofs.Fits.{FitPhandles, fit-phandles}
-use Rattle.fdt_record.proofs.Rows.{ByName, by-name, skip, hit, done, refusals-more, exactly, stands, goes-on, one-more}
+use Rattle.fdt_record.proofs.Rows.{ByName, by-name, skip, hit, done, refusals-more, exactly, stands, goes-on, one-misfit-more}
 use Rattle.fdt_phandles.specs.Phandle.{recordRows, recordAnswer}
 use Rattle.fdt_phandles.proofs.record_tests.Statement.{statement}
 use Rattle.fdt_phandles.proofs.record_tests.Tie as tie
@@ -34,7 +34,7 @@ later s =
     ∷ []
 
 told : (c : tie.After-or-misfit) → c .or-misfit .result ≡ first (misfits (begun (c .before .before)))
-told c = c .or-misfit .ensures ∙ one-more _ (strings-refusals _ _ _) (c .before .before .strings-tests .ensures) (c .before .misfit-phandles .ensures)
+told c = c .or-misfit .ensures ∙ one-misfit-more _ (strings-refusals _ _ _) (c .before .before .strings-tests .ensures) (c .before .misfit-phandles .ensures)
 
 -- none of the misfits holds, so the record fits the table
 fits : (c : tie.Else1) → let a = begun (c .before .before .before .before) .args in FitPhandles (a .w) (length (a .phandles .now))

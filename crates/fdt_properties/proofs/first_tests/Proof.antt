@@ -8,7 +8,7 @@ use Rattle.fdt_record.specs.declared.Answer.the-variants.{Misfit, InvalidString
 use Rattle.fdt_record.specs.Rows.{Row, _⇒_, first}
 use Rattle.fdt_record.specs.Tests.{aloneRows, blobRows, stringsRows}
 use Rattle.fdt_record.proofs.FirstTests.{strings-refusals}
-use Rattle.fdt_record.proofs.Rows.{skip, hit, refusals-more, stands, goes-on, one-more}
+use Rattle.fdt_record.proofs.Rows.{skip, hit, refusals-more, stands, goes-on, one-misfit-more}
 use Rattle.fdt_properties.specs.Property.{stateRows, nameRows}
 use Rattle.fdt_properties.proofs.first_tests.Statement.{statement}
 use Rattle.fdt_properties.proofs.first_tests.Tie as tie
@@ -30,7 +30,7 @@ begun c = c .before .before .before .before
 
 -- the misfits, with the value's
 told : (c : tie.After-or-misfit) → let a = begun c .args in c .or-misfit .result ≡ first (stringsRows (a .w) (a .lent) (a .strings .now) ++ (a .misfit ⇒ Misfit) ∷ [])
-told c = c .or-misfit .ensures ∙ one-more _ (strings-refusals _ _ _) (c .before .strings-tests .ensures) refl
+told c = c .or-misfit .ensures ∙ one-misfit-more _ (strings-refusals _ _ _) (c .before .strings-tests .ensures) refl
 
 -- none holds
 fits : (c : tie.Else1) → let s = begun (c .before .before) in first (rows s) ≡ first (later s)

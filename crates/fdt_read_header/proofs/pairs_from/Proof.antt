@@ -5,7 +5,7 @@ use native.Mathlib.Omega.{arith}
 use lib.ListN.{length}
 use Rattle.fdt_format.specs.Reading.{reservationsAt}
 use Rattle.fdt_read_header.specs.Counted.{counted}
-use Rattle.fdt_read_header.proofs.Pairs.{countedFrom, from-0, ends-here, goes-on, none-left}
+use Rattle.fdt_read_header.proofs.Pairs.{countedFrom, from-0, ends-here, another-pair, no-pair-left}
 use Rattle.fdt_read_header.proofs.pairs_from.Statement.{statement}
 use Rattle.fdt_read_header.proofs.pairs_from.Tie as tie
 
@@ -27,10 +27,10 @@ returns c =
 loop-again : tie.Need-loop-again Inv-loop μ-loop
 loop-again c =
     let loop = c .before .before .before .loop in
-    (omega arith, (omega arith, loop .inv .1 .1 ∙ goes-on _ _ _ _ (c .before .before .loop-test .taken) (sym (c .before .zero-pair .ensures) ∙ c .if1 .left)))
+    (omega arith, (omega arith, loop .inv .1 .1 ∙ another-pair _ _ _ _ (c .before .before .loop-test .taken) (sym (c .before .zero-pair .ensures) ∙ c .if1 .left)))
 
 returns-2 : tie.Need-returns-2 Inv-loop μ-loop
-returns-2 c = sym (c .before .loop .inv .1 .1 ∙ none-left _ _ _ _ (omega arith))
+returns-2 c = sym (c .before .loop .inv .1 .1 ∙ no-pair-left _ _ _ _ (omega arith))
 
 pub pairs-from-spec : {M : Type 1} → statement M
 pairs-from-spec =

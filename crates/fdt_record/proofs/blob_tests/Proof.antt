@@ -2,7 +2,7 @@
 use mathlib.Core.Path.{_∙_}
 use Rattle.fdt_record.specs.Tests.{blobRows}
 use Rattle.fdt_record.proofs.FirstTests.{alone-refusals}
-use Rattle.fdt_record.proofs.Rows.{one-more}
+use Rattle.fdt_record.proofs.Rows.{one-misfit-more}
 use borrow.Author.Needs.{needs}
 use Rattle.fdt_record.proofs.blob_tests.Statement.{statement}
 use Rattle.fdt_record.proofs.blob_tests.Tie as tie
@@ -10,7 +10,7 @@ use Rattle.fdt_record.proofs.blob_tests.Tie as tie
 returns : tie.Need-returns
 unfolding blobRows
 returns c =
-    c .or-misfit .ensures ∙ one-more _ (alone-refusals _) (c .before .before .alone-tests .ensures) (c .before .misfit-blob .ensures)
+    c .or-misfit .ensures ∙ one-misfit-more _ (alone-refusals _) (c .before .before .alone-tests .ensures) (c .before .misfit-blob .ensures)
 
 pub blob-tests-spec : {M : Type 1} → statement M
 blob-tests-spec =

@@ -2,7 +2,7 @@
 use mathlib.Core.Path.{_∙_}
 use Rattle.fdt_record.specs.Tests.{stringsRows}
 use Rattle.fdt_record.proofs.FirstTests.{blob-refusals}
-use Rattle.fdt_record.proofs.Rows.{one-more}
+use Rattle.fdt_record.proofs.Rows.{one-misfit-more}
 use borrow.Author.Needs.{needs}
 use Rattle.fdt_record.proofs.strings_tests.Statement.{statement}
 use Rattle.fdt_record.proofs.strings_tests.Tie as tie
@@ -10,7 +10,7 @@ use Rattle.fdt_record.proofs.strings_tests.Tie as tie
 returns : tie.Need-returns
 unfolding stringsRows
 returns c =
-    c .or-misfit .ensures ∙ one-more _ (blob-refusals _ _) (c .before .before .blob-tests .ensures) (c .before .misfit-strings .ensures)
+    c .or-misfit .ensures ∙ one-misfit-more _ (blob-refusals _ _) (c .before .before .blob-tests .ensures) (c .before .misfit-strings .ensures)
 
 pub strings-tests-spec : {M : Type 1} → statement M
 strings-tests-spec =

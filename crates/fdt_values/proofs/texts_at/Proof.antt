@@ -3,12 +3,12 @@ use mathlib.Core.Path.{_≡_}
 use Prim.Native.Nat.{_+_, _-_, _≤_}
 use native.Mathlib.Omega.{arith}
 use lib.ListN.{length, getD}
-use Rattle.fdt_values.proofs.Texts.{Written, written-none, written-more, written-all, next-within, next-fits, cut, length-next}
+use Rattle.fdt_values.proofs.Texts.{TextsWritten, texts-written-none, texts-written-more, texts-written-all, next-within, next-fits, cut, length-next}
 use Rattle.fdt_values.proofs.texts_at.Statement.{statement}
 use Rattle.fdt_values.proofs.texts_at.Tie as tie
 
 abbrev Inv-loop : tie.InvT-loop
-Inv-loop blob₀ at joined lengths to₀ start₀ i₀ blob to start i = Written at joined lengths blob₀ blob to start i
+Inv-loop blob₀ at joined lengths to₀ start₀ i₀ blob to start i = TextsWritten at joined lengths blob₀ blob to start i
 
 abbrev μ-loop : tie.MeasureT-loop
 μ-loop blob₀ at joined lengths to₀ start₀ i₀ blob to start i = length lengths - i
@@ -36,7 +36,7 @@ store-string-requires c κs = let p = c .before .before .before in omega (arith,
 loop-again : tie.Need-loop-again Inv-loop μ-loop
 loop-again c =
     let p = turn (c .before .before) in
-    written-more (begun (p .before) .pre) (p .before .loop .inv) (p .loop-test .taken) (c .before .before .store-string .ensures)
+    texts-written-more (begun (p .before) .pre) (p .before .loop .inv) (p .loop-test .taken) (c .before .before .store-string .ensures)
 
 pub texts-at-spec : {M : Type 1} → statement M
 texts-at-spec =
@@ -44,7 +44,7 @@ texts-at-spec =
     (tie.spec
     Inv-loop
     μ-loop
-    (λ c. written-none) (λ c. omega arith) (λ c. omega arith)
+    (λ c. texts-written-none) (λ c. omega arith) (λ c. omega arith)
     (λ c. omega (arith, within (c .before)))
     (λ c. omega arith) (λ c. omega arith)
     (λ c. within (c .before .before))
@@ -54,4 +54,4 @@ texts-at-spec =
     (λ c. omega arith) (λ c. omega arith)
     loop-again
     (λ c. c .before .loop .inv .kept)
-    (λ c. written-all (c .before .loop .inv) (c .loop-test .left)))
+    (λ c. texts-written-all (c .before .loop .inv) (c .loop-test .left)))

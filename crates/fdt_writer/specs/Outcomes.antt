@@ -5,9 +5,9 @@ use Rattle.fdt_writer.specs.declared.Answered.{Answered}
 use Rattle.fdt_writer.specs.declared.NodeAnswered.{NodeAnswered}
 
 -- the answer and the record
-abbrev pub told : Answered → Outcome
-told r = record { answer = r .answer; after = r .writer .0 }
+abbrev pub outcomeOf : Answered → Outcome
+outcomeOf r = record { answer = r .answer; after = r .writer .0 }
 
 -- the answer, the handle and the record
-abbrev pub begun : NodeAnswered → Begun
-begun r = record { answer = r .answer; handle = r .handle; after = r .writer .0 }
+abbrev pub begunOf : NodeAnswered → Begun
+begunOf r = record { answer = r .answer; handle = r .handle; after = r .writer .0 }
