@@ -6,7 +6,7 @@ use native.Mathlib.Nat.{zero-add}
 use native.Mathlib.Numerals.{add-one}
 use native.Mathlib.Omega.{arith}
 use lib.ListN.{length, take, drop, set, getD, List·getD-append, length-append, length-take, length-drop, drop-of-length-le}
-use lib.Seq.{sets, sets-eq, set-split, take-all, take-at, drop-at, drop-drop, length-take-le, getD-append-add, getD-take, getD-drop}
+use lib.Seq.{sets, sets-eq, set-split, take-all, take-take, take-append-le, take-at, drop-at, drop-drop, length-take-le, getD-append-add, getD-take, getD-drop}
 use borrow.Rule.Slice.PartMut.{putMid}
 use Rattle.fdt_bytes.specs.Splice.{over, splice}
 
@@ -40,6 +40,25 @@ splice-splice at to bs cs xs e h =
     ∙ ap (λ (x : List ℕ). p ++ (cs ++ drop (length cs) x)) (drop-at p d to l)
     ∙ ap (λ (x : List ℕ). p ++ (cs ++ x)) n
     ∙ simp append-assoc
+
+-- a splice that ends where one made before it begins
+pub splice-under : (at to : ℕ) (bs cs xs : List ℕ) → at + length bs ≡ to → to ≤ length xs → splice at bs (splice to cs xs) ≡ splice at (bs ++ cs) xs
+unfolding splice over
+splice-under at to bs cs xs e h =
+    let d = cs ++ drop (length cs) (drop to xs) in
+    let l : length (take to xs) ≡ to = length-take-le to xs h in
+    let behind : drop (length bs) (drop at (take to xs ++ d)) ≡ d =
+    drop-drop (length bs) at (take to xs ++ d) ∙ ap (λ (n : ℕ). drop n (take to xs ++ d)) e ∙ drop-at (take to xs) d to l
+    in
+    let rest : drop (length cs) (drop to xs) ≡ drop (length (bs ++ cs)) (drop at xs) =
+    ap (λ (n : ℕ). drop (length cs) (drop n xs)) (sym e)
+    ∙ ap (drop (length cs)) (sym (drop-drop (length bs) at xs))
+    ∙ drop-drop (length cs) (length bs) (drop at xs)
+    ∙ ap (λ (n : ℕ). drop n (drop at xs)) (sym (length-append bs cs))
+    in
+    ap (λ (l : List ℕ). l ++ (bs ++ drop (length bs) (drop at (take to xs ++ d)))) (take-append-le at (take to xs) d (omega arith) ∙ take-take at to xs (omega arith))
+    ∙ ap (λ (l : List ℕ). take at xs ++ (bs ++ l)) (behind ∙ ap (λ (l : List ℕ). cs ++ l) rest)
+    ∙ ap (λ (l : List ℕ). take at xs ++ l) (sym (append-assoc bs cs (drop (length (bs ++ cs)) (drop at xs))))
 
 -- the part from `at` on was lent, and its front was overwritten with bs
 pub lent : (at : ℕ) (bs xs ys : List ℕ) → at ≤ length xs → ys ≡ over bs (take (length xs - at) (drop at xs)) → putMid at (length xs - at) xs ys ≡ splice at bs xs

@@ -1,18 +1,17 @@
 -- A property in two steps: a placeholder that is filled with the value's bytes is the property's bytes, spliced in.
 use mathlib.Core.Path.{_≡_, refl, sym, ap, _∙_}
 use mathlib.Core.Bool.{Bool, true, false, not, true≢false}
-use mathlib.Core.List.{List, [], _∷_, _++_, append-assoc}
+use mathlib.Core.List.{List, [], _∷_, _++_}
 use Prim.Native.Nat.{ℕ, _+_, _-_, _*_, _≤_}
 use native.Mathlib.Omega.{arith}
 use lib.Dec.{eqb}
-use lib.ListN.{length, take, drop, length-append}
-use lib.Seq.{take-take, take-append-le, drop-at, drop-drop, length-take-le}
+use lib.ListN.{length}
 use Rattle.fdt_bytes.specs.BigEndian.{cellBytes}
 use Rattle.fdt_bytes.specs.Padding.{padding, roundUp, zeros, padded}
-use Rattle.fdt_bytes.specs.Splice.{over, splice}
+use Rattle.fdt_bytes.specs.Splice.{splice}
 use Rattle.fdt_bytes.proofs.BigEndian.{length-cells}
 use Rattle.fdt_bytes.proofs.Padding.{length-zeros}
-use Rattle.fdt_bytes.proofs.Splice.{length-splice, splice-splice}
+use Rattle.fdt_bytes.proofs.Splice.{length-splice, splice-splice, splice-under}
 use Rattle.fdt_strings.specs.declared.Interned.{Interned}
 use Rattle.fdt_format.specs.Tokens.{propertyToken, propertyBytes}
 use Rattle.fdt_values.specs.Value.{Value, raw, cells, texts, textBytes, valueBytes, sum, misfitValue, zeroValue}
@@ -28,25 +27,6 @@ use Rattle.fdt_properties.specs.declared.Tested.{Tested}
 use Rattle.fdt_properties.specs.Placeholder.{Measures, storedAt, FrameFits, framed, PropertyTested, Unfilled, Placeholder}
 use Rattle.fdt_properties.specs.Property.{placeOf, placeOffset, stored, written, property, propertyBlob, propertyStrings, PropertyOutcome}
 use Rattle.fdt_properties.proofs.Places.{stored-at}
-
--- one splice where another one begins that was made before it
-pub splice-under : (at to : ℕ) (bs cs xs : List ℕ) → at + length bs ≡ to → to ≤ length xs → splice at bs (splice to cs xs) ≡ splice at (bs ++ cs) xs
-unfolding splice over
-splice-under at to bs cs xs e h =
-    let d = cs ++ drop (length cs) (drop to xs) in
-    let l : length (take to xs) ≡ to = length-take-le to xs h in
-    let behind : drop (length bs) (drop at (take to xs ++ d)) ≡ d =
-    drop-drop (length bs) at (take to xs ++ d) ∙ ap (λ (n : ℕ). drop n (take to xs ++ d)) e ∙ drop-at (take to xs) d to l
-    in
-    let rest : drop (length cs) (drop to xs) ≡ drop (length (bs ++ cs)) (drop at xs) =
-    ap (λ (n : ℕ). drop (length cs) (drop n xs)) (sym e)
-    ∙ ap (drop (length cs)) (sym (drop-drop (length bs) at xs))
-    ∙ drop-drop (length cs) (length bs) (drop at xs)
-    ∙ ap (λ (n : ℕ). drop n (drop at xs)) (sym (length-append bs cs))
-    in
-    ap (λ (l : List ℕ). l ++ (bs ++ drop (length bs) (drop at (take to xs ++ d)))) (take-append-le at (take to xs) d (omega arith) ∙ take-take at to xs (omega arith))
-    ∙ ap (λ (l : List ℕ). take at xs ++ (bs ++ l)) (behind ∙ ap (λ (l : List ℕ). cs ++ l) rest)
-    ∙ ap (λ (l : List ℕ). take at xs ++ l) (sym (append-assoc bs cs (drop (length (bs ++ cs)) (drop at xs))))
 
 module _ (used offset len end : ℕ) (value blob : List ℕ) (sized : len ≡ length value) (f : FrameFits used offset len end (length blob)) where
   words : List ℕ

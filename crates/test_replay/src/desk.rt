@@ -1,7 +1,6 @@
 // What is kept from line to line. It is passed by value: a lent buffer costs more to prove in each function than a copy.
 ghost use Rattle.io.specs.Counts.{Counts};
 use crate::room;
-use fdt_record::Record;
 use fdt_writer::Answered;
 use fdt_writer::FdtWriter;
 
@@ -20,21 +19,10 @@ pub struct Desk {
     pub aloud: bool,
 }
 
-// No writer yet: the closed record, and nothing lent.
+// No writer yet: the closed one, which an opening without room returns, and nothing lent.
 pub fn closed() -> Desk {
-    let writer = FdtWriter(Record {
-        blob_room: 0,
-        blob_used: 0,
-        strings_room: 0,
-        strings_used: 0,
-        phandles_room: 0,
-        phandles_used: 0,
-        reservations: 0,
-        node_depth: 0,
-        boot_cpuid_phys: 0,
-        node_ended: false,
-        finished: true,
-    });
+    let mut none = [0; 0];
+    let writer = FdtWriter::new(&mut none, &[], &[]).writer;
     let blob = room::blob();
     let strings = room::strings();
     let phandles = [0xeeee_eeee; 320];
