@@ -1,5 +1,6 @@
 pub mod Called
 pub mod Desks
+pub mod Effects
 pub mod OneOutcome
 pub mod Refused
 pub mod Table

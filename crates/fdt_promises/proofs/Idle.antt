@@ -16,6 +16,7 @@ use Rattle.fdt_record.proofs.Answers.{accepts-done, upon-done, upon-refused}
 use Rattle.fdt_phandles.specs.Phandle.{phandleName, phandleValue}
 use Rattle.fdt_calls.specs.Calls.{Call, property, property-string, property-u32, property-array-u32, property-array-u64, property-phandle, asks, Request, to-open, to-have, Effect, opens, sets-boot, adds, records, no-effect, effect, Desk, answer, after, markAnswer, marked, leftBy}
 use Rattle.fdt_promises.specs.Run.{runs, acceptedCalls, recordedBy, addedBy, tells, eventsOf, bootAfter, boots, bootOf, reservationsOf, withNodes, describe, InRun, AllInRun, Run, allAsk, opened-desk, history, eventsIn, bootIn, description, Idle, shows, refused, OneMore}
+use Rattle.fdt_calls.proofs.Effects.{same-effect}
 use Rattle.fdt_calls.proofs.Refused.{refused-after}
 
 -- ---- what a description is made of
@@ -28,8 +29,7 @@ same-told r q e f g =
     ∙ ap (λ (es : List Event). withNodes (reservationsOf (q .numbers)) (bootIn q) (nodesOf es)) g
 
 pub same-kinds : (name : List ℕ) (v u : Value) → valueBytes v ≡ valueBytes u → tells (to-have name v) ≡ tells (to-have name u)
-unfolding effect addedBy
-same-kinds name v u e = ap (λ (l : List ℕ). has (name ≔ l) ∷ []) e
+same-kinds name v u e = ap addedBy (same-effect name name v u .1 (refl, e))
 
 pub kinds-as-bytes : (name : List ℕ) →
     ((numbers : List ℕ) → tells (asks (property-array-u32 name numbers)) ≡ tells (asks (property name (cellBytes 4 numbers))))
