@@ -51,7 +51,7 @@ fn record_tests(w: Record, lent: usize, strings: &[u8], phandles: &[u32], val: u
 fn put_phandle(w: Record, blob: &mut [u8], strings: &mut [u8], val: u32) -> Outcome
     ensures { λ r. ⌜ PropertyOutcome w (now (blob .entry)) (now (strings .entry)) phandleName (phandleValue val) r (now (blob .exit)) (now (strings .exit)) ⌝ }
 {
-    fdt_properties::write_cells(w, blob, strings, &PHANDLE, &[val])
+    fdt_property_kinds::write_cells(w, blob, strings, &PHANDLE, &[val])
 }
 
 // Records a phandle and writes its property; the value is recorded even if the property is then refused.

@@ -1,4 +1,4 @@
-// Writes a property: makes its tests, stores its name, writes its words and padding, and then its value.
+// A property, except its value: makes its tests, stores its name, and writes its words and padding.
 ghost use mathlib.Core.Path.{_≡_};
 ghost use mathlib.Core.List.{[], _∷_, _++_};
 ghost use Prim.Native.Nat.{_+_, _-_, _≤_, _<_, _^_};
@@ -8,9 +8,9 @@ ghost use Rattle.fdt_record.specs.declared.Answer.the-variants.{StringRoom, Blo
 ghost use Rattle.fdt_record.specs.Fields.{withUsedBlob, withUsedStrings};
 ghost use Rattle.fdt_record.specs.Misfits.{overfull};
 ghost use Rattle.fdt_record.specs.Rows.{_⇒_, first};
-ghost use Rattle.fdt_values.specs.Value.{Value, raw, cells, texts};
+ghost use Rattle.fdt_values.specs.Value.{Value};
 ghost use Rattle.fdt_properties.specs.Placeholder.{PlaceIs, Measures, PropertyTested, NameFits, storedAt, FrameFits, framed, Placeholder};
-ghost use Rattle.fdt_properties.specs.Property.{placeOf, stateRows, nameRows, PropertyOutcome};
+ghost use Rattle.fdt_properties.specs.Property.{placeOf, stateRows, nameRows};
 use fdt_format::FDT_PROP;
 use fdt_record::Answer;
 use fdt_record::Outcome;
@@ -18,10 +18,10 @@ use fdt_record::Record;
 use fdt_strings::Interned;
 
 // What the tests ask of a value: whether the lengths of its strings do not sum to its bytes, whether a string has a byte 0, and how many bytes it takes.
-struct Measured {
-    misfit: bool,
-    zero: bool,
-    len: usize,
+pub struct Measured {
+    pub misfit: bool,
+    pub zero: bool,
+    pub len: usize,
 }
 
 // A name's place: whether it has none, its offset, and how many bytes it adds to the used strings.
@@ -40,10 +40,10 @@ struct Tested {
 }
 
 // The outcome of the call, whether it is accepted, and where its value then goes.
-struct Placed {
-    outcome: Outcome,
-    accepted: bool,
-    at: usize,
+pub struct Placed {
+    pub outcome: Outcome,
+    pub accepted: bool,
+    pub at: usize,
 }
 
 // The tests of the name: 5, 11.
@@ -181,7 +181,7 @@ fn put_frame(blob: &mut [u8], used: usize, offset: usize, len: usize, end: usize
 }
 
 // Makes all tests of a property and, if they are passed, writes everything except its value: its name, words and padding.
-fn property_placeholder(
+pub fn property_placeholder(
     w: Record,
     blob: &mut [u8],
     strings: &mut [u8],
@@ -212,101 +212,4 @@ fn property_placeholder(
         accepted: true,
         at,
     }
-}
-
-// Writes a property of bytes.
-pub fn write_bytes(
-    w: Record,
-    blob: &mut [u8],
-    strings: &mut [u8],
-    name: &[u8],
-    val: &[u8],
-) -> Outcome
-    ensures { λ r. ⌜ PropertyOutcome w (now (blob .entry)) (now (strings .entry)) (now (name .entry)) (raw (now (val .entry))) r (now (blob .exit)) (now (strings .exit)) ⌝ }
-{
-    let value = Measured {
-        misfit: false,
-        zero: false,
-        len: val.len(),
-    };
-    let placed = property_placeholder(w, blob, strings, name, value);
-    let outcome = placed.outcome;
-    if !placed.accepted {
-        return outcome;
-    }
-    fdt_splice::bytes_at(blob, placed.at, val);
-    outcome
-}
-
-// Writes a property of numbers of 4 bytes.
-pub fn write_cells(
-    w: Record,
-    blob: &mut [u8],
-    strings: &mut [u8],
-    name: &[u8],
-    numbers: &[u32],
-) -> Outcome
-    ensures { λ r. ⌜ PropertyOutcome w (now (blob .entry)) (now (strings .entry)) (now (name .entry)) (cells 4 (now (numbers .entry))) r (now (blob .exit)) (now (strings .exit)) ⌝ }
-{
-    let value = Measured {
-        misfit: false,
-        zero: false,
-        len: 4 * numbers.len(),
-    };
-    let placed = property_placeholder(w, blob, strings, name, value);
-    let outcome = placed.outcome;
-    if !placed.accepted {
-        return outcome;
-    }
-    fdt_splice::cells_at(blob, placed.at, numbers);
-    outcome
-}
-
-// Writes a property of numbers of 8 bytes.
-pub fn write_wide_cells(
-    w: Record,
-    blob: &mut [u8],
-    strings: &mut [u8],
-    name: &[u8],
-    numbers: &[u64],
-) -> Outcome
-    ensures { λ r. ⌜ PropertyOutcome w (now (blob .entry)) (now (strings .entry)) (now (name .entry)) (cells 8 (now (numbers .entry))) r (now (blob .exit)) (now (strings .exit)) ⌝ }
-{
-    let value = Measured {
-        misfit: false,
-        zero: false,
-        len: 8 * numbers.len(),
-    };
-    let placed = property_placeholder(w, blob, strings, name, value);
-    let outcome = placed.outcome;
-    if !placed.accepted {
-        return outcome;
-    }
-    fdt_splice::wide_cells_at(blob, placed.at, numbers);
-    outcome
-}
-
-// Writes a property of strings, given as their joined bytes and their lengths.
-pub fn write_texts(
-    w: Record,
-    blob: &mut [u8],
-    strings: &mut [u8],
-    name: &[u8],
-    joined: &[u8],
-    lengths: &[usize],
-) -> Outcome
-    ensures { λ r. ⌜ PropertyOutcome w (now (blob .entry)) (now (strings .entry)) (now (name .entry)) (texts (now (joined .entry)) (now (lengths .entry))) r (now (blob .exit)) (now (strings .exit)) ⌝ }
-{
-    let value = Measured {
-        misfit: !fdt_values::sums_to(lengths, joined.len()),
-        zero: fdt_names::has_zero(joined),
-        len: joined.len() + lengths.len(),
-    };
-    let placed = property_placeholder(w, blob, strings, name, value);
-    let outcome = placed.outcome;
-    if !placed.accepted {
-        return outcome;
-    }
-    fdt_values::texts_at(blob, placed.at, joined, lengths);
-    outcome
 }

@@ -109,7 +109,7 @@ impl FdtWriter {
     pub fn property(self, blob: &mut [u8], strings: &mut [u8], name: &[u8], val: &[u8]) -> Answered
         ensures { λ r. ⌜ ((phandles : List ℕ) → Called (property (now (name .entry)) (now (val .entry))) (deskOf (self .0) (now (blob .entry)) (now (strings .entry)) phandles) (r .answer) (deskOf (r .writer .0) (now (blob .exit)) (now (strings .exit)) phandles)) ⌝ }
     {
-        wrapped(fdt_properties::write_bytes(self.0, blob, strings, name, val))
+        wrapped(fdt_property_kinds::write_bytes(self.0, blob, strings, name, val))
     }
 
     // Writes a property with an empty value.
@@ -146,7 +146,7 @@ impl FdtWriter {
     ) -> Answered
         ensures { λ r. ⌜ ((phandles : List ℕ) → Called (property-string-list (now (name .entry)) (now (values .entry)) (now (lengths .entry))) (deskOf (self .0) (now (blob .entry)) (now (strings .entry)) phandles) (r .answer) (deskOf (r .writer .0) (now (blob .exit)) (now (strings .exit)) phandles)) ⌝ }
     {
-        wrapped(fdt_properties::write_texts(self.0, blob, strings, name, values, lengths))
+        wrapped(fdt_property_kinds::write_texts(self.0, blob, strings, name, values, lengths))
     }
 
     // Writes a property whose value is one number of 4 bytes.
@@ -188,7 +188,7 @@ impl FdtWriter {
     ) -> Answered
         ensures { λ r. ⌜ ((phandles : List ℕ) → Called (property-array-u32 (now (name .entry)) (now (numbers .entry))) (deskOf (self .0) (now (blob .entry)) (now (strings .entry)) phandles) (r .answer) (deskOf (r .writer .0) (now (blob .exit)) (now (strings .exit)) phandles)) ⌝ }
     {
-        wrapped(fdt_properties::write_cells(self.0, blob, strings, name, numbers))
+        wrapped(fdt_property_kinds::write_cells(self.0, blob, strings, name, numbers))
     }
 
     // Writes a property whose value is a list of numbers of 8 bytes each.
@@ -202,7 +202,7 @@ impl FdtWriter {
     ) -> Answered
         ensures { λ r. ⌜ ((phandles : List ℕ) → Called (property-array-u64 (now (name .entry)) (now (numbers .entry))) (deskOf (self .0) (now (blob .entry)) (now (strings .entry)) phandles) (r .answer) (deskOf (r .writer .0) (now (blob .exit)) (now (strings .exit)) phandles)) ⌝ }
     {
-        wrapped(fdt_properties::write_wide_cells(self.0, blob, strings, name, numbers))
+        wrapped(fdt_property_kinds::write_wide_cells(self.0, blob, strings, name, numbers))
     }
 
     // Records a phandle in the table and writes the property `phandle`. Once 13 and 16 are passed the value stays recorded, even if the property is refused.

@@ -2,9 +2,9 @@
 use borrow.Author.Needs.{needs}
 use borrow.Author.Tests.{not-true, not-false}
 use Rattle.fdt_values.specs.Value.{valueBytes}
 use Rattle.fdt_properties.proofs.Filling.{left-unfilled, filled-with, of-texts, texts-fit}
-use Rattle.fdt_properties.proofs.write_texts.Statement.{statement}
-use Rattle.fdt_properties.proofs.write_texts.Tie as tie
+use Rattle.fdt_property_kinds.proofs.write_texts.Statement.{statement}
+use Rattle.fdt_property_kinds.proofs.write_texts.Tie as tie
 
 abbrev called : tie.After-struct-known → tie.After-property-placeholder
 called c = let p = c .before .before .before in p .before .before .before
