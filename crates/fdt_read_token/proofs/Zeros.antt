@@ -1,5 +1,5 @@
 -- `zeroFrom` is what the kit's search finds: both go byte by byte.
-use mathlib.Core.Path.{_≡_, sym, ap, subst, _∙_}
+use mathlib.Core.Path.{_≡_, ap, _∙_}
 use mathlib.Core.Bool.{Bool, true, false, cond}
 use mathlib.Core.List.{List}
 use Prim.Native.Nat.{ℕ, zero, suc, _+_, _-_, _≤_}
@@ -9,7 +9,6 @@ use lib.ListN.{length, getD, take, drop}
 use lib.Seq.{slice-empty, slice-cons}
 use Rattle.bytes.specs.Bytes.{indexOf, indexAfter, slice}
 use Rattle.fdt_format.specs.Step.{zeroFrom}
-use Rattle.fdt_format.proofs.Steps.{zero-ge}
 
 -- here, or this much further
 here : (t : Bool) (at k : ℕ) → cond t at (suc at + k) ≡ at + indexAfter t k
@@ -28,7 +27,3 @@ searched b (suc k) at to e l =
 
 pub zero-found : (b : List ℕ) (at to : ℕ) → at ≤ to → to ≤ length b → zeroFrom b (to - at) at ≡ at + indexOf 0 (slice at to b)
 zero-found b at to h l = searched b (to - at) at to (omega arith) l
-
--- it is not before the place
-pub found-ge : (b : List ℕ) (k at r : ℕ) → r ≡ zeroFrom b k at → at ≤ r
-found-ge b k at r e = subst (λ (n : ℕ). at ≤ n) (sym e) (zero-ge b k at)

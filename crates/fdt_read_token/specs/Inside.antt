@@ -12,7 +12,7 @@ pub record Inside (b : List ℕ) (a : Areas) : Type 0 where
   pub strings : a .«strings_end» ≤ length b
   pub small : length b < 2 ^ 32
 
--- a state inside the structure, with no more open nodes than bytes before it
+-- a state inside the structure, with a depth of 32 bits
 pub record InStructure (a : Areas) (s : State) : Type 0 where
   pub within : s .at ≤ a .«structure_end»
-  pub few : s .depth ≤ s .at
+  pub few : s .depth < 2 ^ 32

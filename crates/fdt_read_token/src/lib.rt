@@ -15,6 +15,7 @@ ghost use Prim.Native.Nat.{_+_, _-_, _≤_, _<_, _^_};
 ghost use lib.ListN.{length};
 ghost use Rattle.fdt_format.specs.Step.{zeroFrom, sizeAt, beginAt, propertyAt, endAt, finalAt, stepAt};
 ghost use Rattle.fdt_read_token.specs.Inside.{Inside, InStructure};
+ghost use Rattle.fdt_read_token.specs.Trimmed.{afterLastZero, trimmed, Trimmed};
 
 // The first place from `at` on and before `end` that holds a 0; without one, the greater of `at` and `end`.
 pub fn zero_from(blob: &[u8], at: usize, end: usize) -> usize
@@ -25,6 +26,31 @@ pub fn zero_from(blob: &[u8], at: usize, end: usize) -> usize
         return at;
     }
     bytes::scan::find(blob, at, end, 0)
+}
+
+// The place after the last 0 from `from` on and before `to`; without one, `from`.
+fn after_last_zero(blob: &[u8], from: usize, to: usize) -> usize
+    requires { ⌜ (from ≤ to) × (to ≤ length (now blob)) ⌝ }
+    ensures { λ r. ⌜ r ≡ afterLastZero (now (blob .entry)) from (to - from) ⌝ }
+{
+    let mut end = to;
+    while from < end {
+        if blob[end - 1] == 0 {
+            return end;
+        }
+        end -= 1;
+    }
+    from
+}
+
+// The areas with the strings cut after their last 0. The tokens are the same, and the test of a name offset is one comparison.
+pub fn trim(blob: &[u8], a: Areas) -> Areas
+    requires { ⌜ Inside (now blob) a ⌝ }
+    ensures { λ r. ⌜ r ≡ trimmed (now (blob .entry)) a ⌝ }
+{
+    let mut cut = a;
+    cut.strings_end = after_last_zero(blob, a.strings, a.strings_end);
+    cut
 }
 
 // Reads the beginning of a node. Its name and padding must end inside the structure.
@@ -76,9 +102,9 @@ pub fn property_size(blob: &[u8], at: usize, end: usize) -> usize
     size
 }
 
-// Reads a property. It must be whole inside the structure, and its name offset must meet a 0 inside the strings.
+// Reads a property. It must be whole inside the structure, and its name must begin inside the strings, which end with a 0.
 fn property_at(blob: &[u8], a: Areas, s: State) -> Step
-    requires { ⌜ Inside (now blob) a × InStructure a s ⌝ }
+    requires { ⌜ Trimmed (now blob) a × InStructure a s ⌝ }
     ensures { λ r. ⌜ r ≡ propertyAt (now (blob .entry)) a s ⌝ }
 {
     let at = s.at;
@@ -88,7 +114,7 @@ fn property_at(blob: &[u8], a: Areas, s: State) -> Step
     }
     let size = read_u32(blob, at + 4);
     let name = a.strings + read_u32(blob, at + 8) as usize;
-    if a.strings_end <= zero_from(blob, name, a.strings_end) {
+    if a.strings_end <= name {
         return Step::Bad(Unreadable::NameOffset);
     }
     let name_place = name as u32;
@@ -146,9 +172,9 @@ fn final_at(a: Areas, s: State) -> Step
     Step::Final
 }
 
-// Reads the token at a state.
+// Reads the token at a state. The strings must have been cut after their last 0.
 pub fn step_at(blob: &[u8], a: Areas, s: State) -> Step
-    requires { ⌜ Inside (now blob) a × InStructure a s ⌝ }
+    requires { ⌜ Trimmed (now blob) a × InStructure a s ⌝ }
     ensures { λ r. ⌜ r ≡ stepAt (now (blob .entry)) a s ⌝ }
 {
     let at = s.at;

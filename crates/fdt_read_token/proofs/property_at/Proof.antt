@@ -1,10 +1,11 @@
--- `property_at` makes the tests of `propertyAt` in their order: a size other than 0 means that the property is whole (`size-whole`).
+-- `property_at` makes the tests of `propertyAt` in their order: a size other than 0 means that the property is whole (`size-whole`),
+-- and in strings that were cut one comparison decides on the name (`trimmed-decides`).
 use native.Mathlib.Omega.{arith}
 use borrow.Author.Needs.{needs}
 use borrow.Author.Tests.{le-leb, lt-leb}
 use Rattle.fdt_format.specs.Step.{propertyAt}
 use Rattle.fdt_format.proofs.Steps.{is-whole, size-none, size-whole}
-use Rattle.fdt_read_token.proofs.Zeros.{found-ge}
+use Rattle.fdt_read_token.proofs.Trimmed.{trimmed-decides}
 use Rattle.fdt_read_token.proofs.property_at.Statement.{statement}
 use Rattle.fdt_read_token.proofs.property_at.Tie as tie
 
@@ -21,28 +22,31 @@ read-u32-requires-2 c κs = let w = size-whole _ _ _ (c .before .before .propert
 returns-2 : tie.Need-returns-2
 unfolding propertyAt
 returns-2 c =
-    let offset = c .before .before .before .before in
+    let offset = c .before .before .before in
     let size = offset .before .before in
     let w = size-whole _ _ _ (size .before .property-size .ensures) (size .if1 .left) in
-    rw (is-whole _ _ _ (w .0), ← offset .read-u322 .ensures, ← c .before .before .zero-from .ensures, le-leb _ _ (c .if2 .taken))
-
-cast-name-place : tie.Need-cast-name-place
-cast-name-place c = omega (arith, found-ge _ _ _ _ (c .before .before .zero-from .ensures))
+    rw (is-whole _ _ _ (w .0), ← offset .read-u322 .ensures, trimmed-decides _ _ (size .before .before .before .pre .0) _, le-leb _ _ (c .if2 .taken))
 
 add-next : tie.Need-add-next
 add-next c =
-    let offset = c .before .before .before .before in
-    let size = offset .before .before in
+    let size = c .before .before .before .before .before in
     let w = size-whole _ _ _ (size .before .property-size .ensures) (size .if1 .left) in
     omega (arith, w .0 .ends, w .1)
 
 returns-3 : tie.Need-returns-3
 unfolding propertyAt
 returns-3 c =
-    let offset = c .before .before .before .before in
+    let offset = c .before .before .before in
     let size = offset .before .before in
     let w = size-whole _ _ _ (size .before .property-size .ensures) (size .if1 .left) in
-    rw (is-whole _ _ _ (w .0), ← w .1, ← offset .before .read-u32 .ensures, ← offset .read-u322 .ensures, ← c .before .before .zero-from .ensures, lt-leb _ _ (c .if2 .left))
+    rw (
+      is-whole _ _ _ (w .0),
+      ← w .1,
+      ← offset .before .read-u32 .ensures,
+      ← offset .read-u322 .ensures,
+      trimmed-decides _ _ (size .before .before .before .pre .0) _,
+      lt-leb _ _ (c .if2 .left),
+    )
 
 pub property-at-spec : {M : Type 1} → statement M
 property-at-spec =
@@ -54,9 +58,9 @@ property-at-spec =
     read-u32-requires
     (λ c. search needs)
     read-u32-requires-2
-    (λ c. search needs) (λ c. search needs) (λ c κs. search needs)
+    (λ c. search needs) (λ c. search needs)
     returns-2
-    cast-name-place
+    (λ c. search needs)
     add-next
     (λ c. search needs)
     returns-3)
