@@ -74,7 +74,7 @@ module _ {b : List ℕ} {a : Areas} {names : List (List ℕ)} {strings : List �
   unfolding entriesOf
   walked-on r w = record {
     walked =
-        walk-step b a s (omega (arith, first-fits)) ∙ ap (λ (x : Step). follow x (walk b a)) (r .step)
+        walk-step b a s ∙ ap (λ (x : Step). follow x (walk b a)) (r .step)
         ∙ ap (more (entryOf a names s e)) (w .walked);
     events-are = rw (r .event-is, w .events-are);
   }
@@ -86,7 +86,7 @@ module _ (b : List ℕ) (a : Areas) (names : List (List ℕ)) (strings : List �
       AllPlain es → AllHas names es → Stood b a names strings s es → Walked b a names s es
   unfolding Accepted AllPlain Plain AllHas eventBytes stateAfter depthAfter takesAfter structureBytes entriesOf eventsSize
   walk-written [] depth ended s c d r p f h = record {
-    walked = walk-step b a s (omega (arith, h .ended)) ∙ ap (λ (x : Step). follow x (walk b a)) (final-read b a names s strings (h .held) (omega (arith, h .ended)) (d ∙ c));
+    walked = walk-step b a s ∙ ap (λ (x : Step). follow x (walk b a)) (final-read b a names s strings (h .held) (omega (arith, h .ended)) (d ∙ c));
     events-are = refl;
   }
   walk-written (begins name ∷ es) depth ended s c d r p f h =
