@@ -2,6 +2,7 @@
 use mathlib.Core.Path.{_≡_, refl, subst}
 use mathlib.Core.Bool.{Bool, true, false, _&&_, cond, false≢true}
 use mathlib.Core.List.{List}
+use mathlib.Core.Logic.{_⊎_, inl, inr}
 use Prim.Native.Nat.{ℕ, zero, suc, _+_, _-_, _≤_, _<_}
 use native.Mathlib.Omega.{arith}
 use native.Mathlib.Numerals.{add-one}
@@ -15,6 +16,7 @@ use Rattle.fdt_format.specs.declared.Entry.{Entry}
 use Rattle.fdt_format.specs.declared.State.{State}
 use Rattle.fdt_format.specs.declared.Step.{Step}
 use Rattle.fdt_format.specs.declared.Step.the-variants as step
+use Rattle.fdt_format.specs.declared.Unreadable.the-variants.{Structure, NameOffset}
 use Rattle.fdt_format.specs.Description.{Property, _≔_}
 use Rattle.fdt_format.specs.Events.{begins, has, ends}
 use Rattle.fdt_format.specs.Reading.{nameAt, eventAt}
@@ -120,11 +122,11 @@ pub data Kind (b : List ℕ) (s : State) (t : Entry) (s' : State) : Type 0 where
   adds : (p : Property) → eventAt b t ≡ has p → s' .depth ≡ s .depth → s .«takes_property» ≡ true → s' .«takes_property» ≡ true → Kind b s t s'
   closes : eventAt b t ≡ ends → suc (s' .depth) ≡ s .depth → s' .«takes_property» ≡ false → Kind b s t s'
 
--- an entry does both; the final word comes where no node is open
+-- an entry does both; the final word comes where no node is open; a token is refused only for its structure or its name offset
 unfoldable pub Stepped : List ℕ → Areas → State → Step → Type 0
 Stepped b a s (step.Entry t s') = Moved a s s' × Kind b s t s'
 Stepped b a s step.Final = s .depth ≡ 0
-Stepped b a s (step.Bad r) = Unit {0}
+Stepped b a s (step.Bad r) = (r ≡ Structure) ⊎ (r ≡ NameOffset)
 
 roundUp-ge : (m n : ℕ) → n ≤ roundUp m n
 unfolding roundUp
@@ -136,8 +138,8 @@ module _ (b : List ℕ) (a : Areas) (s : State) where
   begin-stepped =
       let from : ℕ = s .at + 4 in
       let zero : ℕ = zeroFrom b (a .«structure_end» - from) from in
-      by-test (Stepped b a s) (leb (a .«structure_end») zero) _ _ (λ _. tt)
-      λ _. by-test (Stepped b a s) (ltb (a .«structure_end») (roundUp 4 (zero + 1))) _ _ (λ _. tt)
+      by-test (Stepped b a s) (leb (a .«structure_end») zero) _ _ (λ _. inl refl)
+      λ _. by-test (Stepped b a s) (ltb (a .«structure_end») (roundUp 4 (zero + 1))) _ _ (λ _. inl refl)
       λ h. (
         record {
           on = omega (arith, roundUp-ge 4 (zero + 1), zero-ge b (a .«structure_end» - from) from);
@@ -152,14 +154,14 @@ module _ (b : List ℕ) (a : Areas) (s : State) where
       let name : ℕ = a .strings + wordAt b (s .at + 8) in
       by-test (Stepped b a s) (wholeAt b (a .«structure_end») (s .at)) _ _
       (λ h. let w = whole-is b (a .«structure_end») (s .at) h in
-      by-test (Stepped b a s) (leb (a .«strings_end») (zeroFrom b (a .«strings_end» - name) name)) _ _ (λ _. tt)
+      by-test (Stepped b a s) (leb (a .«strings_end») (zeroFrom b (a .«strings_end» - name) name)) _ _ (λ _. inr refl)
       λ _. (record { on = omega arith; within = omega (arith, w .words, w .ends) }, adds _ (event-has b _ refl) refl r refl))
-      (λ _. tt)
+      (λ _. inl refl)
 
   end-stepped : ltb (a .«structure_end» - s .at) 4 ≡ false → Stepped b a s (endAt s)
   unfolding endAt Stepped
   end-stepped k =
-      by-test (Stepped b a s) (eqb (s .depth) 0) _ _ (λ _. tt)
+      by-test (Stepped b a s) (eqb (s .depth) 0) _ _ (λ _. inl refl)
       λ h. let n : s .depth ≡ 0 → ⊥ = eqb-false _ _ h in (
         record { on = omega arith; within = omega (arith, ltb-false (a .«structure_end» - s .at) 4 k) },
         closes (event-ends b _ refl) (omega (arith, n)) refl,
@@ -169,17 +171,17 @@ module _ (b : List ℕ) (a : Areas) (s : State) where
   unfolding finalAt Stepped
   final-stepped =
       by-test (Stepped b a s) (eqb (s .depth) 0) _ _
-      (λ h. by-test (Stepped b a s) (eqb (s .at + 4) (a .«structure_end»)) _ _ (λ _. eqb-true _ _ h) (λ _. tt)) (λ _. tt)
+      (λ h. by-test (Stepped b a s) (eqb (s .at + 4) (a .«structure_end»)) _ _ (λ _. eqb-true _ _ h) (λ _. inl refl)) (λ _. inl refl)
 
   pub step-stepped : Stepped b a s (stepAt b a s)
   unfolding stepAt Stepped
   step-stepped =
       let word : ℕ = wordAt b (s .at) in
-      by-test (Stepped b a s) (ltb (a .«structure_end» - s .at) 4) _ _ (λ _. tt)
+      by-test (Stepped b a s) (ltb (a .«structure_end» - s .at) 4) _ _ (λ _. inl refl)
       λ k. by-test (Stepped b a s) (eqb word beginToken) _ _ (λ _. begin-stepped)
       λ _. by-test (Stepped b a s) (eqb word endToken) _ _ (λ _. end-stepped k)
-      λ _. by-test (Stepped b a s) (eqb word propertyToken) _ _ (λ _. by-test (Stepped b a s) (s .«takes_property») _ _ property-stepped (λ _. tt))
-      λ _. by-test (Stepped b a s) (eqb word finalToken) _ _ (λ _. final-stepped) (λ _. tt)
+      λ _. by-test (Stepped b a s) (eqb word propertyToken) _ _ (λ _. by-test (Stepped b a s) (s .«takes_property») _ _ property-stepped (λ _. inl refl))
+      λ _. by-test (Stepped b a s) (eqb word finalToken) _ _ (λ _. final-stepped) (λ _. inl refl)
 
   pub moved : {t : Entry} {s' : State} → stepAt b a s ≡ step.Entry t s' → Moved a s s'
   unfolding Stepped

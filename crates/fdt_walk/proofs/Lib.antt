@@ -1,0 +1,3 @@
+pub mod Capped
+pub mod Reached
+pub mod Walked

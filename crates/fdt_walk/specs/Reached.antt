@@ -1,0 +1,25 @@
+-- The states that a reader reaches in a structure, and the faults that it can meet at one.
+use mathlib.Core.Path.{_≡_}
+use mathlib.Core.List.{List}
+use Prim.Native.Nat.{ℕ, _≤_, _<_}
+use Rattle.fdt_format.specs.declared.Areas.{Areas}
+use Rattle.fdt_format.specs.declared.Entry.{Entry}
+use Rattle.fdt_format.specs.declared.State.{State}
+use Rattle.fdt_format.specs.declared.Step.the-variants as step
+use Rattle.fdt_format.specs.declared.Unreadable.the-variants.{Structure, NameOffset}
+use Rattle.fdt_format.specs.Step.{stepAt}
+use Rattle.fdt_format.specs.Walk.{start}
+use Rattle.fdt_walk.specs.declared.Refusal.{Refusal}
+use Rattle.fdt_walk.specs.declared.Refusal.the-variants.{Unreadable, Depth}
+use Rattle.fdt_walk.specs.Depth.{mostOpen}
+
+-- a state that is reached from the start by entries alone, with at most 64 nodes open
+pub data Reached (b : List ℕ) (a : Areas) : State → Type 0 where
+  first : Reached b a (start a)
+  next : {s : State} {t : Entry} {s' : State} → Reached b a s → stepAt b a s ≡ step.Entry t s' → s' .depth ≤ mostOpen → Reached b a s'
+
+-- what is wrong with the token at a state: structure, name offset, or else depth
+pub data Wrong (b : List ℕ) (a : Areas) (s : State) : Refusal → Type 0 where
+  structure : stepAt b a s ≡ step.Bad Structure → Wrong b a s (Unreadable Structure)
+  name-offset : stepAt b a s ≡ step.Bad NameOffset → Wrong b a s (Unreadable NameOffset)
+  depth : {t : Entry} {s' : State} → stepAt b a s ≡ step.Entry t s' → mostOpen < s' .depth → Wrong b a s Depth

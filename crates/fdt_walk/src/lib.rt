@@ -1,0 +1,73 @@
+// The tokens of a lent blob one after the other, as a reader takes them: at most 64 nodes may be open.
+use fdt_format::Areas;
+use fdt_format::Entry;
+use fdt_format::State;
+use fdt_format::Step;
+use fdt_format::Unreadable;
+use fdt_read_token::step_at;
+ghost use mathlib.Core.Path.{_≡_};
+ghost use Rattle.fdt_read_token.specs.Trimmed.{Trimmed};
+ghost use Rattle.fdt_walk.specs.Refusals.{numberOf};
+ghost use Rattle.fdt_walk.specs.Token.{Stands, Takes};
+
+// How many nodes may be open.
+pub const MOST_OPEN: usize = 64;
+
+// Why a reader refuses a blob.
+pub enum Refusal {
+    // 21: the header's words or areas are not good.
+    Header,
+    // 22 to 24: the reading refuses it.
+    Unreadable(Unreadable),
+    // 25: a node begins where 64 are open.
+    Depth,
+}
+
+// The first fault of a blob: why it is refused, and the place of what is refused.
+pub struct Fault {
+    pub refusal: Refusal,
+    pub place: usize,
+}
+
+// The token at a state: an entry with the state after it, the final word, or a fault.
+pub enum Token {
+    Entry(Entry, State),
+    Final,
+    Refused(Fault),
+}
+
+// The number of a refusal.
+pub fn number(refusal: Refusal) -> u32
+    ensures { λ r. ⌜ r ≡ numberOf refusal ⌝ }
+{
+    match refusal {
+        Refusal::Header => 21,
+        Refusal::Unreadable(reason) => fdt_format::number(reason),
+        Refusal::Depth => 25,
+    }
+}
+
+// Takes the token at a state. All that it promises is how the walk goes on from there.
+pub fn token_at(blob: &[u8], a: Areas, s: State) -> Token
+    requires { ⌜ Trimmed (now blob) a × Stands a s ⌝ }
+    ensures { λ r. ⌜ Takes (now (blob .entry)) a s r ⌝ }
+{
+    let place = s.at;
+    let read = step_at(blob, a, s);
+    match read {
+        Step::Final => Token::Final,
+        Step::Bad(reason) => Token::Refused(Fault {
+            refusal: Refusal::Unreadable(reason),
+            place,
+        }),
+        Step::Entry(t, next) => {
+            if MOST_OPEN < next.depth {
+                return Token::Refused(Fault {
+                    refusal: Refusal::Depth,
+                    place,
+                });
+            }
+            Token::Entry(t, next)
+        }
+    }
+}
