@@ -1,0 +1,86 @@
+-- What a survey has seen is what the reader answers.
+use mathlib.Core.Path.{_≡_, refl, sym, ap, _∙_}
+use mathlib.Core.List.{List}
+use Prim.Native.Nat.{ℕ, _/_, _≤_, _<_}
+use native.Mathlib.Omega.{arith}
+use borrow.Author.Tests.{lt-ltb, le-ltb}
+use mir.Syntax.{w8}
+use mir.Val.{Fits}
+use lib.ListN.{length, getD}
+use Rattle.fdt_format.specs.declared.Areas.{Areas}
+use Rattle.fdt_format.specs.declared.Entry.{Entry}
+use Rattle.fdt_format.specs.Reading.{areasOf}
+use Rattle.fdt_format.specs.Walk.{start}
+use Rattle.fdt_read_token.specs.Trimmed.{trimmed, Trimmed}
+use Rattle.fdt_walk.specs.declared.Fault.{Fault}
+use Rattle.fdt_walk.specs.ReaderWalk.{reads, readerWalk}
+use Rattle.fdt_reader.specs.declared.Progress.{Progress}
+use Rattle.fdt_reader.specs.declared.Reading.the-variants as reading
+use Rattle.fdt_reader.specs.declared.Surveyed.the-variants as surveyed
+use Rattle.fdt_reader.specs.Numbers.{Opens}
+use Rattle.fdt_reader.specs.Pass.{Placed, Continues, first}
+use Rattle.fdt_reader.specs.Reader.{Outcome, refused, accepted, refusedAt, outcome, surveyedAs, surveyOf, answeredAs, answerOf, filled, listAs, listAfter, Read}
+use Rattle.fdt_reader.proofs.Header.{cut-ready, start-trimmed}
+use Rattle.fdt_reader.proofs.Outcomes.{Way, no-header, no-pair, no-token, all-read, way}
+use Rattle.fdt_reader.proofs.Whole.{first-placed, fills-list}
+
+-- the areas and counts of a survey, with the reservations and entries that were counted
+pub record Seen (b : List ℕ) (a : Areas) (reservations entries : ℕ) : Type 0 where
+  pub areas : a ≡ trimmed b (areasOf b)
+  pub opens : Opens b
+  pub read : List Entry
+  pub walked : readerWalk b (areasOf b) (start (areasOf b)) ≡ reads read
+  pub outcome-is : outcome b ≡ accepted (opens .found) read
+  pub reservations-is : reservations ≡ length (opens .found)
+  pub entries-is : entries ≡ length read
+
+module _ (b : List ℕ) where
+  see : {o : Outcome} → Way b o → o ≡ outcome b → (a : Areas) (n m : ℕ) → surveyed.Whole a n m ≡ surveyedAs (trimmed b (areasOf b)) o → Seen b a n m
+  unfolding surveyedAs refusedAt
+  see (no-header h) e a n m q = absurd (let z : _≡_ {A = ℕ} 0 1 = cc in omega arith)
+  see (no-pair h r) e a n m q = absurd (let z : _≡_ {A = ℕ} 0 1 = cc in omega arith)
+  see (no-token o w) e a n m q = absurd (let z : _≡_ {A = ℕ} 0 1 = cc in omega arith)
+  see (all-read o {ts} w) e a n m q =
+      record { areas = cc; opens = o; read = ts; walked = w; outcome-is = sym e; reservations-is = cc; entries-is = cc }
+
+  pub seen-whole : {a : Areas} {n m : ℕ} → surveyed.Whole a n m ≡ surveyOf b → Seen b a n m
+  unfolding surveyOf
+  seen-whole q = see (way b) refl _ _ _ q
+
+  refused-is : (o : Outcome) (fault : Fault) → surveyed.Refused fault ≡ surveyedAs (trimmed b (areasOf b)) o → o ≡ refused fault
+  unfolding surveyedAs
+  refused-is (refused f) fault q = let e : f ≡ fault = cc in ap refused e
+  refused-is (accepted rs ts) fault q = absurd (let z : _≡_ {A = ℕ} 0 1 = cc in omega arith)
+
+  module _ {a : Areas} {n m : ℕ} (s : Seen b a n m) where
+    -- the walk with these areas
+    seen-walk : readerWalk b a (start a) ≡ reads (s .read)
+    seen-walk = rw (s .areas) (start-trimmed b ∙ s .walked)
+
+    -- a pass may begin
+    pub seen-ready : ((i : ℕ) → Fits w8 (getD b i 0)) → Trimmed b a × Placed a (first a)
+    seen-ready bytes = let r = cut-ready b (s .opens .header) bytes refl (s .areas) in (r .0, first-placed (r .1))
+
+  module _ (list : List ℕ) where
+    -- the first fault is answered
+    pub reads-refused : {fault : Fault} → surveyed.Refused fault ≡ surveyOf b → Read b list list (reading.Refused (fault .refusal))
+    unfolding surveyOf answerOf answeredAs listAfter listAs
+    reads-refused {fault} q = let e = refused-is (outcome b) fault q in record { answer = rw e; list = rw e }
+
+    module _ {a : Areas} {n m : ℕ} (s : Seen b a n m) where
+      -- the list has too little room
+      pub reads-short : length list / 4 < m → Read b list list reading.ShortList
+      unfolding answerOf answeredAs listAfter listAs
+      reads-short h =
+          let less : length list / 4 < length (s .read) = omega (arith, s .entries-is) in
+          record { answer = rw (s .outcome-is, lt-ltb _ _ less); list = rw (s .outcome-is, lt-ltb _ _ less) }
+
+      -- the list has room, and a pass filled it
+      pub reads-done : {list' : List ℕ} (r : Progress) → m ≤ length list / 4 → Continues b a list (first a) list' r → Read b list list' (reading.Done (a .boot) n m)
+      unfolding answerOf answeredAs listAfter listAs trimmed
+      reads-done r h pass =
+          let room : length (s .read) ≤ length list / 4 = omega (arith, s .entries-is) in
+          record {
+            answer = rw (s .outcome-is, le-ltb _ _ room, s .areas, s .reservations-is, s .entries-is);
+            list = rw (s .outcome-is, le-ltb _ _ room) (fills-list list r (s .read) (seen-walk s) room pass);
+          }

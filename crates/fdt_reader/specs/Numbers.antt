@@ -1,0 +1,49 @@
+-- When the reader answers with which number: the first fault wins. What an accepted call tells (document 02, request 1/14).
+use mathlib.Core.Path.{_≡_}
+use mathlib.Core.Bool.{true, false}
+use mathlib.Core.List.{List, [], map}
+use mathlib.Core.Option.{none, some}
+use Prim.Native.Nat.{ℕ, _/_, _≤_, _<_}
+use lib.ListN.{length}
+use Rattle.fdt_format.specs.declared.Entry.{Entry}
+use Rattle.fdt_format.specs.declared.State.{State}
+use Rattle.fdt_format.specs.Description.{Reservation, Description}
+use Rattle.fdt_format.specs.Events.{events}
+use Rattle.fdt_format.specs.Reading.{areasOf, goodHeader, eventAt, readReservations, reading}
+use Rattle.fdt_walk.specs.declared.Refusal.{Refusal}
+use Rattle.fdt_walk.specs.Depth.{mostOpen, AtMost}
+use Rattle.fdt_walk.specs.Reached.{Reached, Wrong}
+use Rattle.fdt_walk.specs.Refusals.{numberOf as refusalNumber}
+use Rattle.fdt_reader.specs.Reader.{numberOf, valuesOf, answerOf, filled, listAfter}
+
+-- the header is good, and an all-zero pair ends the reservations inside the blob
+pub record Opens (b : List ℕ) : Type 0 where
+  pub header : goodHeader b ≡ true
+  pub found : List Reservation
+  pub reservations : readReservations b (areasOf b) ≡ some found
+
+-- a blob is read as a description whose nodes are nested at most 64 deep
+pub record Describes (b : List ℕ) (d : Description) : Type 0 where
+  pub read : reading b ≡ some d
+  pub shallow : AtMost mostOpen (d .nodes)
+
+pub data Numbered (b list : List ℕ) : ℕ → Type 0 where
+  -- the header is not good
+  header : goodHeader b ≡ false → Numbered b list 21
+  -- it is, and no all-zero pair is inside the blob
+  reservations : goodHeader b ≡ true → readReservations b (areasOf b) ≡ none → Numbered b list 22
+  -- both are, and the token at a state that is reached is wrong: 23, 24 or 25
+  token : {s : State} {r : Refusal} → Opens b → Reached b (areasOf b) s → Wrong b (areasOf b) s r → Numbered b list (refusalNumber r)
+  -- all is good, and the list has too little room, with four numbers for each entry
+  short-list : {d : Description} → Describes b d → length list / 4 < length (events (d .nodes) []) → Numbered b list 30
+  -- all is good, and the list has room
+  done : {d : Description} → Describes b d → length (events (d .nodes) []) ≤ length list / 4 → Numbered b list 0
+
+-- what an accepted call tells of a description: the boot number and the counts are its own, and the entries at the front of the
+-- list are those of its events, each with its place, the place of its name and the length of its value
+pub record Tells (b before : List ℕ) (d : Description) : Type 0 where
+  pub number : numberOf (answerOf b before) ≡ 0
+  pub values : valuesOf (answerOf b before) ≡ record { boot = d .boot; reservations = length (d .reservations); entries = length (events (d .nodes) []) }
+  pub entries : List Entry
+  pub events-are : map (eventAt b) entries ≡ events (d .nodes) []
+  pub list : listAfter b before ≡ filled before entries

@@ -1,0 +1,116 @@
+-- What the reader answers of a blob, and what its list then holds (document 02, request 1/14).
+use mathlib.Core.Path.{_≡_}
+use mathlib.Core.Bool.{cond}
+use mathlib.Core.List.{List, [], _∷_, _++_}
+use mathlib.Core.Option.{Option, none, some}
+use Prim.Native.Nat.{ℕ, _*_, _/_}
+use lib.Dec.{ltb}
+use lib.ListN.{length, drop}
+use Rattle.fdt_format.specs.declared.Areas.{Areas}
+use Rattle.fdt_format.specs.declared.Entry.{Entry}
+use Rattle.fdt_format.specs.declared.Unreadable.the-variants.{Reservations}
+use Rattle.fdt_format.specs.Description.{Reservation}
+use Rattle.fdt_format.specs.Reading.{areasOf, goodHeader, readReservations}
+use Rattle.fdt_format.specs.Walk.{start}
+use Rattle.fdt_read_token.specs.Trimmed.{trimmed}
+use Rattle.fdt_walk.specs.declared.Fault.{Fault}
+use Rattle.fdt_walk.specs.declared.Refusal.{Refusal}
+use Rattle.fdt_walk.specs.declared.Refusal.the-variants.{Header, Unreadable}
+use Rattle.fdt_walk.specs.Refusals.{numberOf as refusalNumber}
+use Rattle.fdt_walk.specs.ReaderWalk.{ReaderWalk, stops, reads, readerWalk}
+use Rattle.fdt_reader.specs.declared.Reading.{Reading}
+use Rattle.fdt_reader.specs.declared.Reading.the-variants as reading
+use Rattle.fdt_reader.specs.declared.Surveyed.{Surveyed}
+use Rattle.fdt_reader.specs.declared.Surveyed.the-variants as surveyed
+
+-- ---- the answer as numbers
+
+-- the number of an answer
+unfoldable pub numberOf : Reading → ℕ
+numberOf (reading.Done boot reservations entries) = 0
+numberOf (reading.Refused refusal) = refusalNumber refusal
+numberOf reading.ShortList = 30
+
+-- the values of an answer: the boot number, and how many reservations and entries there are
+pub record Values : Type 0 where
+  pub boot : ℕ
+  pub reservations : ℕ
+  pub entries : ℕ
+
+-- all 0
+unfoldable pub noValues : Values
+noValues = record { boot = 0; reservations = 0; entries = 0 }
+
+-- all 0 if refused
+unfoldable pub valuesOf : Reading → Values
+valuesOf (reading.Done boot reservations entries) = record { boot = boot; reservations = reservations; entries = entries }
+valuesOf (reading.Refused refusal) = noValues
+valuesOf reading.ShortList = noValues
+
+-- ---- what is found in a blob
+
+-- the first fault; or the reservations and the entries
+pub data Outcome : Type 0 where
+  refused : Fault → Outcome
+  accepted : List Reservation → List Entry → Outcome
+
+-- refused, for what is at a place
+unfoldable pub refusedAt : ℕ → Refusal → Outcome
+refusedAt place r = refused (record { refusal = r; place = place })
+
+-- third: the structure, token by token
+unfoldable pub fromWalk : List Reservation → ReaderWalk → Outcome
+fromWalk rs (stops fault) = refused fault
+fromWalk rs (reads ts) = accepted rs ts
+
+-- second: the reservations
+unfoldable pub fromReservations : List ℕ → Areas → Option (List Reservation) → Outcome
+fromReservations b a none = refusedAt (a .reservations) (Unreadable Reservations)
+fromReservations b a (some rs) = fromWalk rs (readerWalk b a (start a))
+
+-- first: the header
+unfoldable pub outcome : List ℕ → Outcome
+outcome b = cond (goodHeader b) (fromReservations b (areasOf b) (readReservations b (areasOf b))) (refusedAt 0 Header)
+
+-- ---- the answers
+
+-- the areas that a survey returns, and the counts
+unfoldable pub surveyedAs : Areas → Outcome → Surveyed
+surveyedAs a (refused fault) = surveyed.Refused fault
+surveyedAs a (accepted rs ts) = surveyed.Whole a (length rs) (length ts)
+
+-- what a survey answers of a blob
+unfoldable pub surveyOf : List ℕ → Surveyed
+surveyOf b = surveyedAs (trimmed b (areasOf b)) (outcome b)
+
+-- the reader's answer, by the boot number and the length of the list: last, whether four numbers for each entry have room
+unfoldable pub answeredAs : ℕ → ℕ → Outcome → Reading
+answeredAs boot room (refused fault) = reading.Refused (fault .refusal)
+answeredAs boot room (accepted rs ts) = cond (ltb (room / 4) (length ts)) reading.ShortList (reading.Done boot (length rs) (length ts))
+
+-- the reader's answer of a blob, with a list
+unfoldable pub answerOf : List ℕ → List ℕ → Reading
+answerOf b list = answeredAs (areasOf b .boot) (length list) (outcome b)
+
+-- entries as numbers, four for each
+unfoldable pub numbersOf : List Entry → List ℕ
+numbersOf [] = []
+numbersOf (t ∷ ts) = t .token ∷ t .place ∷ t .name ∷ t .size ∷ numbersOf ts
+
+-- a list with entries at its front; numbers after them stay
+unfoldable pub filled : List ℕ → List Entry → List ℕ
+filled list ts = numbersOf ts ++ drop (length ts * 4) list
+
+-- the list afterwards; a refusal writes nothing
+unfoldable pub listAs : List ℕ → Outcome → List ℕ
+listAs list (refused fault) = list
+listAs list (accepted rs ts) = cond (ltb (length list / 4) (length ts)) list (filled list ts)
+
+-- the list after the reader was called with a blob
+unfoldable pub listAfter : List ℕ → List ℕ → List ℕ
+listAfter b list = listAs list (outcome b)
+
+-- a call of the reader: its answer, and the list after it
+pub record Read (b before after : List ℕ) (r : Reading) : Type 0 where
+  pub answer : r ≡ answerOf b before
+  pub list : after ≡ listAfter b before
