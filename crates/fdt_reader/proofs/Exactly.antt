@@ -13,7 +13,7 @@ use Rattle.fdt_format.specs.declared.Entry.{Entry}
 use Rattle.fdt_format.specs.Description.{Description}
 use Rattle.fdt_format.specs.Events.{events}
 use Rattle.fdt_format.specs.Reading.{areasOf, eventAt, reading as readingOf}
-use Rattle.fdt_format.specs.Walk.{start}
+use Rattle.fdt_format.specs.Walk.{walkStart}
 use Rattle.fdt_format.proofs.Nested.{Parts, reading-is, read-exactly}
 use Rattle.fdt_walk.specs.Depth.{mostOpen, AtMost}
 use Rattle.fdt_walk.specs.Reached.{structure, name-offset, depth}
@@ -36,7 +36,7 @@ record Described (b : List ℕ) (ts : List Entry) : Type 0 where
 
 module _ (b : List ℕ) where
   -- a walk that the reader takes to its end describes something
-  walk-describes : (o : Opens b) (ts : List Entry) → readerWalk b (areasOf b) (start (areasOf b)) ≡ reads ts → Described b ts
+  walk-describes : (o : Opens b) (ts : List Entry) → readerWalk b (areasOf b) (walkStart (areasOf b)) ≡ reads ts → Described b ts
   walk-describes o ts w =
       let g = reads-exactly b (areasOf b) ts .0 w in
       let x = read-exactly b (o .found) ts (o .header) (o .reservations) (g .0) in

@@ -17,7 +17,7 @@ use Rattle.fdt_format.specs.declared.Unreadable.{Unreadable as Reason}
 use Rattle.fdt_format.specs.declared.Unreadable.the-variants.{Reservations}
 use Rattle.fdt_format.specs.Description.{Reservation}
 use Rattle.fdt_format.specs.Reading.{areasOf, goodWords, goodAreas, goodHeader, readReservations}
-use Rattle.fdt_format.specs.Walk.{start}
+use Rattle.fdt_format.specs.Walk.{walkStart}
 use Rattle.fdt_header.specs.Header.{magic, version, lastCompatible, headerSize}
 use Rattle.fdt_read_header.specs.declared.Reservations.the-variants.{Count, Refused}
 use Rattle.fdt_read_header.specs.Counted.{counted}
@@ -89,9 +89,9 @@ module _ (b : List ℕ) (g : goodHeader b ≡ true) (bytes : (i : ℕ) → Fits 
   cut-ready e = rw (e, q) (trimmed-is b (areasOf b) (inside b g bytes), areas-order b .0)
 
 -- the walk is the same if the strings are cut
-pub start-trimmed : (b : List ℕ) → readerWalk b (trimmed b (areasOf b)) (start (trimmed b (areasOf b))) ≡ readerWalk b (areasOf b) (start (areasOf b))
-unfolding start trimmed
-start-trimmed b = walk-trimmed b (areasOf b) (areas-order b .1) (start (areasOf b))
+pub start-trimmed : (b : List ℕ) → readerWalk b (trimmed b (areasOf b)) (walkStart (trimmed b (areasOf b))) ≡ readerWalk b (areasOf b) (walkStart (areasOf b))
+unfolding walkStart trimmed
+start-trimmed b = walk-trimmed b (areasOf b) (areas-order b .1) (walkStart (areasOf b))
 
 -- ---- the answer of a survey
 
@@ -107,10 +107,10 @@ module _ (b : List ℕ) (a cut : Areas) where
   pair-answer none reason e = let same : reason ≡ Reservations = cc in rw same
   pair-answer (some rs) reason e = absurd (let z : _≡_ {A = ℕ} 0 1 = cc in omega arith)
 
-  structure-answer : (rs : Option (List Reservation)) (n : ℕ) → Count n ≡ counted rs → surveyedWalk cut n (readerWalk b a (start a)) ≡ surveyedAs cut (fromReservations b a rs)
+  structure-answer : (rs : Option (List Reservation)) (n : ℕ) → Count n ≡ counted rs → surveyedWalk cut n (readerWalk b a (walkStart a)) ≡ surveyedAs cut (fromReservations b a rs)
   unfolding counted fromReservations
   structure-answer none n e = absurd (let z : _≡_ {A = ℕ} 0 1 = cc in omega arith)
-  structure-answer (some rs) n e = let same : n ≡ length rs = cc in rw same (walk-answer rs (readerWalk b a (start a)))
+  structure-answer (some rs) n e = let same : n ≡ length rs = cc in rw same (walk-answer rs (readerWalk b a (walkStart a)))
 
 module _ (b : List ℕ) where
   pub bad-words : goodWords b ≡ false → surveyed.Refused (record { refusal = Header; place = 0 }) ≡ surveyOf b
@@ -132,7 +132,7 @@ module _ (b : List ℕ) where
     no-pair h {reason} e = rw (h, ← q) (pair-answer b a (trimmed b a) (readReservations b a) reason e)
 
     pub structure-surveyed : goodHeader b ≡ true → {n : ℕ} → Count n ≡ counted (readReservations b a)
-        → surveyedWalk (trimmed b a) n (readerWalk b (trimmed b a) (start (trimmed b a))) ≡ surveyOf b
+        → surveyedWalk (trimmed b a) n (readerWalk b (trimmed b a) (walkStart (trimmed b a))) ≡ surveyOf b
     unfolding surveyOf outcome
     structure-surveyed h {n} e =
         rw (h, q)

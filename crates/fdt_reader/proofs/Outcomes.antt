@@ -9,7 +9,7 @@ use Rattle.fdt_format.specs.declared.Entry.{Entry}
 use Rattle.fdt_format.specs.declared.Unreadable.the-variants.{Reservations}
 use Rattle.fdt_format.specs.Description.{Reservation}
 use Rattle.fdt_format.specs.Reading.{areasOf, goodHeader, readReservations}
-use Rattle.fdt_format.specs.Walk.{start}
+use Rattle.fdt_format.specs.Walk.{walkStart}
 use Rattle.fdt_walk.specs.declared.Fault.{Fault}
 use Rattle.fdt_walk.specs.declared.Refusal.the-variants.{Header, Unreadable}
 use Rattle.fdt_walk.specs.ReaderWalk.{ReaderWalk, stops, reads, readerWalk}
@@ -24,10 +24,10 @@ module _ (b : List ℕ) where
   pub data Way : Outcome → Type 0 where
     no-header : goodHeader b ≡ false → Way (refusedAt 0 Header)
     no-pair : goodHeader b ≡ true → readReservations b areas ≡ none → Way (refusedAt (areas .reservations) (Unreadable Reservations))
-    no-token : (o : Opens b) {fault : Fault} → readerWalk b areas (start areas) ≡ stops fault → Way (refused fault)
-    all-read : (o : Opens b) {ts : List Entry} → readerWalk b areas (start areas) ≡ reads ts → Way (accepted (o .found) ts)
+    no-token : (o : Opens b) {fault : Fault} → readerWalk b areas (walkStart areas) ≡ stops fault → Way (refused fault)
+    all-read : (o : Opens b) {ts : List Entry} → readerWalk b areas (walkStart areas) ≡ reads ts → Way (accepted (o .found) ts)
 
-  by-walk : (o : Opens b) (w : ReaderWalk) → readerWalk b areas (start areas) ≡ w → Way (fromWalk (o .found) w)
+  by-walk : (o : Opens b) (w : ReaderWalk) → readerWalk b areas (walkStart areas) ≡ w → Way (fromWalk (o .found) w)
   unfolding fromWalk
   by-walk o (stops fault) w = no-token o w
   by-walk o (reads ts) w = all-read o w
@@ -35,7 +35,7 @@ module _ (b : List ℕ) where
   by-reservations : goodHeader b ≡ true → (rs : Option (List Reservation)) → readReservations b areas ≡ rs → Way (fromReservations b areas rs)
   unfolding fromReservations
   by-reservations h none r = no-pair h r
-  by-reservations h (some rs) r = by-walk (record { header = h; found = rs; reservations = r }) (readerWalk b areas (start areas)) refl
+  by-reservations h (some rs) r = by-walk (record { header = h; found = rs; reservations = r }) (readerWalk b areas (walkStart areas)) refl
 
   by-header : (t : Bool) → goodHeader b ≡ t → Way (cond t (fromReservations b areas (readReservations b areas)) (refusedAt 0 Header))
   by-header true h = by-reservations h (readReservations b areas) refl
@@ -46,6 +46,6 @@ module _ (b : List ℕ) where
   way = by-header (goodHeader b) refl
 
   -- and the other way round
-  pub from-walk : (o : Opens b) → outcome b ≡ fromWalk (o .found) (readerWalk b areas (start areas))
+  pub from-walk : (o : Opens b) → outcome b ≡ fromWalk (o .found) (readerWalk b areas (walkStart areas))
   unfolding outcome fromReservations
   from-walk o = rw (o .header, o .reservations)

@@ -7,7 +7,7 @@ use Rattle.fdt_format.specs.declared.Areas.{Areas}
 use Rattle.fdt_format.specs.declared.Entry.{Entry}
 use Rattle.fdt_format.specs.declared.State.{State}
 use Rattle.fdt_format.specs.Tokens.{beginToken, endToken}
-use Rattle.fdt_format.specs.Walk.{start}
+use Rattle.fdt_format.specs.Walk.{walkStart}
 use Rattle.fdt_read_token.specs.Trimmed.{Trimmed}
 use Rattle.fdt_walk.specs.declared.Fault.{Fault}
 use Rattle.fdt_walk.specs.declared.Token.{Token}
@@ -20,8 +20,8 @@ use Rattle.fdt_reader.specs.declared.Progress.the-variants as progress
 use Rattle.fdt_reader.specs.Pass.{put, putAll, result, resultFrom, resultAt, Placed, after, Stops, Continues, callsBelow}
 
 -- at most 128 calls of `node` and `children` are nested below the first: each call has fewer below it than the one around it
-pub calls-bounded : (a : Areas) → callsBelow (start a) ≡ 128
-unfolding start
+pub calls-bounded : (a : Areas) → callsBelow (walkStart a) ≡ 128
+unfolding walkStart
 calls-bounded a = refl
 
 -- a place inside a blob, and so a count of entries before it, has 32 bits

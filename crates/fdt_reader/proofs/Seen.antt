@@ -10,7 +10,7 @@ use lib.ListN.{length, getD}
 use Rattle.fdt_format.specs.declared.Areas.{Areas}
 use Rattle.fdt_format.specs.declared.Entry.{Entry}
 use Rattle.fdt_format.specs.Reading.{areasOf}
-use Rattle.fdt_format.specs.Walk.{start}
+use Rattle.fdt_format.specs.Walk.{walkStart}
 use Rattle.fdt_read_token.specs.Trimmed.{trimmed, Trimmed}
 use Rattle.fdt_walk.specs.declared.Fault.{Fault}
 use Rattle.fdt_walk.specs.ReaderWalk.{reads, readerWalk}
@@ -29,7 +29,7 @@ pub record Seen (b : List ℕ) (a : Areas) (reservations entries : ℕ) : Type 0
   pub areas : a ≡ trimmed b (areasOf b)
   pub opens : Opens b
   pub read : List Entry
-  pub walked : readerWalk b (areasOf b) (start (areasOf b)) ≡ reads read
+  pub walked : readerWalk b (areasOf b) (walkStart (areasOf b)) ≡ reads read
   pub outcome-is : outcome b ≡ accepted (opens .found) read
   pub reservations-is : reservations ≡ length (opens .found)
   pub entries-is : entries ≡ length read
@@ -54,7 +54,7 @@ module _ (b : List ℕ) where
 
   module _ {a : Areas} {n m : ℕ} (s : Seen b a n m) where
     -- the walk with these areas
-    seen-walk : readerWalk b a (start a) ≡ reads (s .read)
+    seen-walk : readerWalk b a (walkStart a) ≡ reads (s .read)
     seen-walk = rw (s .areas) (start-trimmed b ∙ s .walked)
 
     -- a pass may begin

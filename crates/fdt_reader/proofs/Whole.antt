@@ -7,7 +7,7 @@ use borrow.Author.Tests.{lt-ltb, le-ltb}
 use lib.ListN.{length, set, length-append}
 use Rattle.fdt_format.specs.declared.Areas.{Areas}
 use Rattle.fdt_format.specs.declared.Entry.{Entry}
-use Rattle.fdt_format.specs.Walk.{start}
+use Rattle.fdt_format.specs.Walk.{walkStart}
 use Rattle.fdt_walk.specs.declared.Fault.{Fault}
 use Rattle.fdt_walk.specs.ReaderWalk.{ReaderWalk, stops, reads, readerWalk}
 use Rattle.fdt_reader.specs.declared.Cursor.{Cursor}
@@ -19,12 +19,12 @@ use Rattle.fdt_reader.specs.Reader.{numbersOf, filled}
 
 -- where a pass begins
 pub first-placed : {a : Areas} → a .structure ≤ a .«structure_end» → Placed a (first a)
-unfolding start
+unfolding walkStart
 first-placed h = record { stands = record { within = h; shallow = omega arith }; few = omega arith }
 
 -- no node is open there, so none ends
 pub never-ended : {b : List ℕ} {a : Areas} {list list' : List ℕ} {d : Cursor} {A : Type 0} → Continues b a list (first a) list' (progress.Ended d) → A
-unfolding Stops start
+unfolding Stops walkStart
 never-ended h = absurd (omega (arith, h .stops .depth))
 
 -- ---- without room
@@ -52,13 +52,13 @@ module _ (a : Areas) (reservations : ℕ) where
 
   -- what a pass without room answers is what a survey answers
   module _ {b : List ℕ} {list' : List ℕ} where
-    pub survey-complete : {n : ℕ} → Continues b a [] (first a) list' (progress.Complete n) → surveyed.Whole a reservations n ≡ surveyedWalk a reservations (readerWalk b a (start a))
+    pub survey-complete : {n : ℕ} → Continues b a [] (first a) list' (progress.Complete n) → surveyed.Whole a reservations n ≡ surveyedWalk a reservations (readerWalk b a (walkStart a))
     unfolding resultAt
-    survey-complete h = walk-counted _ list' (readerWalk b a (start a)) (h .same)
+    survey-complete h = walk-counted _ list' (readerWalk b a (walkStart a)) (h .same)
 
-    pub survey-refused : {fault : Fault} → Continues b a [] (first a) list' (progress.Refused fault) → surveyed.Refused fault ≡ surveyedWalk a reservations (readerWalk b a (start a))
+    pub survey-refused : {fault : Fault} → Continues b a [] (first a) list' (progress.Refused fault) → surveyed.Refused fault ≡ surveyedWalk a reservations (readerWalk b a (walkStart a))
     unfolding resultAt
-    survey-refused h = walk-refused _ (readerWalk b a (start a)) (h .same)
+    survey-refused h = walk-refused _ (readerWalk b a (walkStart a)) (h .same)
 
 -- ---- with room
 
@@ -103,11 +103,11 @@ unfolding result
 walk-filled list list' ts w n e room q = let f : putAll list 0 ts ≡ complete (0 + length ts) (filled list ts) = fills ts [] list 0 refl (omega arith) in cc
 
 -- a pass over a good structure fills a list that has room
-pub fills-list : {b : List ℕ} {a : Areas} (list : List ℕ) {list' : List ℕ} (r : Progress) (ts : List Entry) → readerWalk b a (start a) ≡ reads ts → length ts ≤ length list / 4
+pub fills-list : {b : List ℕ} {a : Areas} (list : List ℕ) {list' : List ℕ} (r : Progress) (ts : List Entry) → readerWalk b a (walkStart a) ≡ reads ts → length ts ≤ length list / 4
     → Continues b a list (first a) list' r → list' ≡ filled list ts
 unfolding resultAt result
 fills-list list (progress.Ended d) ts e room h = never-ended h
-fills-list {b} {a} list {list'} (progress.Complete n) ts e room h = walk-filled list list' ts (readerWalk b a (start a)) n e room (h .same)
+fills-list {b} {a} list {list'} (progress.Complete n) ts e room h = walk-filled list list' ts (readerWalk b a (walkStart a)) n e room (h .same)
 fills-list {b} {a} list (progress.Refused fault) ts e room h =
     let f : putAll list 0 ts ≡ complete (0 + length ts) (filled list ts) = fills ts [] list 0 refl (omega arith) in
     absurd (let z : _≡_ {A = ℕ} 0 1 = cc (rw e at (h .same)) in omega arith)

@@ -9,7 +9,7 @@ use lib.ListN.{length, set}
 use Rattle.fdt_format.specs.declared.Areas.{Areas}
 use Rattle.fdt_format.specs.declared.Entry.{Entry}
 use Rattle.fdt_format.specs.declared.State.{State}
-use Rattle.fdt_format.specs.Walk.{start}
+use Rattle.fdt_format.specs.Walk.{walkStart}
 use Rattle.fdt_walk.specs.declared.Fault.{Fault}
 use Rattle.fdt_walk.specs.Depth.{mostOpen}
 use Rattle.fdt_walk.specs.ReaderWalk.{ReaderWalk, stops, reads, readerWalk}
@@ -80,7 +80,7 @@ pub record Continues (b : List ℕ) (a : Areas) (list : List ℕ) (c : Cursor) (
 
 -- where a pass begins
 abbrev pub first : Areas → Cursor
-first a = record { state = start a; count = 0 }
+first a = record { state = walkStart a; count = 0 }
 
 -- what a survey answers, by the count of reservations and the walk
 unfoldable pub surveyedWalk : Areas → ℕ → ReaderWalk → Surveyed

@@ -11,7 +11,7 @@ use Rattle.fdt_format.specs.declared.Entry.{Entry}
 use Rattle.fdt_format.specs.declared.Unreadable.the-variants.{Reservations}
 use Rattle.fdt_format.specs.Description.{Reservation}
 use Rattle.fdt_format.specs.Reading.{areasOf, goodHeader, readReservations}
-use Rattle.fdt_format.specs.Walk.{start}
+use Rattle.fdt_format.specs.Walk.{walkStart}
 use Rattle.fdt_read_token.specs.Trimmed.{trimmed}
 use Rattle.fdt_walk.specs.declared.Fault.{Fault}
 use Rattle.fdt_walk.specs.declared.Refusal.{Refusal}
@@ -66,7 +66,7 @@ fromWalk rs (reads ts) = accepted rs ts
 -- second: the reservations
 unfoldable pub fromReservations : List ℕ → Areas → Option (List Reservation) → Outcome
 fromReservations b a none = refusedAt (a .reservations) (Unreadable Reservations)
-fromReservations b a (some rs) = fromWalk rs (readerWalk b a (start a))
+fromReservations b a (some rs) = fromWalk rs (readerWalk b a (walkStart a))
 
 -- first: the header
 unfoldable pub outcome : List ℕ → Outcome

@@ -12,7 +12,7 @@ use fdt_walk::token_at;
 ghost use mathlib.Core.Path.{_≡_};
 ghost use Prim.Native.Nat.{_≤_, _<_};
 ghost use Rattle.fdt_read_token.specs.Trimmed.{Trimmed};
-ghost use Rattle.fdt_format.specs.Walk.{start};
+ghost use Rattle.fdt_format.specs.Walk.{walkStart};
 ghost use Rattle.fdt_walk.specs.ReaderWalk.{readerWalk};
 ghost use Rattle.fdt_walk.specs.Token.{Stands};
 ghost use Rattle.fdt_reader.specs.Pass.{put, after, Placed, Continues, first, surveyedWalk};
@@ -128,7 +128,7 @@ fn first(a: Areas) -> Cursor
 // Surveys the structure: a pass with a list that has no room.
 fn survey_structure(blob: &[u8], a: Areas, reservations: usize) -> Surveyed
     requires { ⌜ Trimmed (now blob) a × (a .structure ≤ a .«structure_end») ⌝ }
-    ensures { λ r. ⌜ r ≡ surveyedWalk a reservations (readerWalk (now (blob .entry)) a (start a)) ⌝ }
+    ensures { λ r. ⌜ r ≡ surveyedWalk a reservations (readerWalk (now (blob .entry)) a (walkStart a)) ⌝ }
 {
     let mut none: [u32; 1] = [0; 1];
     let pass = children(blob, a, &mut none[..0], first(a));

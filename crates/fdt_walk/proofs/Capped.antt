@@ -16,7 +16,7 @@ use Rattle.fdt_format.specs.Description.{Property, Nodes, no-more, node}
 use Rattle.fdt_format.specs.Events.{Event, begins, has, ends, propertyEvents, events}
 use Rattle.fdt_format.specs.Reading.{eventAt}
 use Rattle.fdt_format.specs.Step.{stepAt}
-use Rattle.fdt_format.specs.Walk.{Walk, bad, good, more as goodMore, follow, steps, walk, start}
+use Rattle.fdt_format.specs.Walk.{Walk, bad, good, more as goodMore, follow, steps, walk, walkStart}
 use Rattle.fdt_format.proofs.Steps.{by-test, Kind, opens, adds, closes, Stepped, step-stepped}
 use Rattle.fdt_walk.specs.declared.Fault.{Fault}
 use Rattle.fdt_walk.specs.declared.Refusal.the-variants.{Depth}
@@ -109,9 +109,9 @@ module _ (b : List ℕ) (a : Areas) where
   steps-beside zero s h = neither _ _
   steps-beside (suc k) s h = by-step (steps (stepAt b a) k) (readerSteps b a k) s h (steps-beside k) (stepAt b a s) (step-stepped b a s)
 
-  walks-beside : Beside b mostOpen (walk b a (start a)) (readerWalk b a (start a))
-  unfolding walk readerWalk start
-  walks-beside = steps-beside _ (start a) (omega arith)
+  walks-beside : Beside b mostOpen (walk b a (walkStart a)) (readerWalk b a (walkStart a))
+  unfolding walk readerWalk walkStart
+  walks-beside = steps-beside _ (walkStart a) (omega arith)
 
   -- ---- what follows
 
@@ -130,7 +130,7 @@ module _ (b : List ℕ) (a : Areas) where
   )
 
   -- a reader's walk is good exactly if the walk is and its events open at most 64 nodes at once
-  pub reads-exactly : (ts : List Entry) → (readerWalk b a (start a) ≡ reads ts) ↔ ((walk b a (start a) ≡ good ts) × Shallow mostOpen (map (eventAt b) ts))
+  pub reads-exactly : (ts : List Entry) → (readerWalk b a (walkStart a) ≡ reads ts) ↔ ((walk b a (walkStart a) ≡ good ts) × Shallow mostOpen (map (eventAt b) ts))
   reads-exactly ts = reads-is ts walks-beside
 
   deep-is : (ts : List Entry) {w : Walk} {w' : ReaderWalk} → Beside b mostOpen w w' → w ≡ good ts → (Shallow mostOpen (map (eventAt b) ts) → ⊥)
@@ -140,5 +140,5 @@ module _ (b : List ℕ) (a : Areas) where
   deep-is ts (neither r f) g n = absurd (let z : _≡_ {A = ℕ} 0 1 = cc in omega arith)
 
   -- if only the walk is good, the reader's stops for depth
-  pub deep-stops : (ts : List Entry) → walk b a (start a) ≡ good ts → (Shallow mostOpen (map (eventAt b) ts) → ⊥) → (place : ℕ) × (readerWalk b a (start a) ≡ refusedAt place Depth)
+  pub deep-stops : (ts : List Entry) → walk b a (walkStart a) ≡ good ts → (Shallow mostOpen (map (eventAt b) ts) → ⊥) → (place : ℕ) × (readerWalk b a (walkStart a) ≡ refusedAt place Depth)
   deep-stops ts = deep-is ts walks-beside

@@ -14,7 +14,7 @@ use Rattle.fdt_format.specs.declared.Step.the-variants as step
 use Rattle.fdt_format.specs.declared.Unreadable.{Unreadable as Reason}
 use Rattle.fdt_format.specs.declared.Unreadable.the-variants.{Structure, NameOffset}
 use Rattle.fdt_format.specs.Step.{stepAt}
-use Rattle.fdt_format.specs.Walk.{start}
+use Rattle.fdt_format.specs.Walk.{walkStart}
 use Rattle.fdt_format.proofs.Steps.{by-test, Moved, Stepped, step-stepped}
 use Rattle.fdt_walk.specs.declared.Fault.{Fault}
 use Rattle.fdt_walk.specs.declared.Refusal.{Refusal}
@@ -71,14 +71,14 @@ module _ (b : List ℕ) (a : Areas) where
   wrong-stops {s} (name-offset e) = reader-step b a s ∙ rw e
   wrong-stops {s} (depth e d) = reader-step b a s ∙ rw (e, lt-ltb _ _ d)
 
-  reached-stops : {s : State} → Reached b a s → (f : Fault) → readerWalk b a s ≡ stops f → readerWalk b a (start a) ≡ stops f
+  reached-stops : {s : State} → Reached b a s → (f : Fault) → readerWalk b a s ≡ stops f → readerWalk b a (walkStart a) ≡ stops f
   unfolding capped
   reached-stops first f q = q
   reached-stops (next {s} {t} h e d) f q = reached-stops h f (reader-step b a s ∙ rw (e, le-ltb _ _ d, q))
 
-  pub stops-exactly : (f : Fault) → (readerWalk b a (start a) ≡ stops f) ↔ Meets b a f
+  pub stops-exactly : (f : Fault) → (readerWalk b a (walkStart a) ≡ stops f) ↔ Meets b a f
   unfolding readerWalk
   stops-exactly f = (
-    λ q. by-steps f _ (start a) first (omega arith) q,
+    λ q. by-steps f _ (walkStart a) first (omega arith) q,
     λ m. reached-stops (m .reached) f (wrong-stops (m .wrong) ∙ ap (λ (n : ℕ). refusedAt n (f .refusal)) (sym (m .place))),
   )
