@@ -16,6 +16,7 @@ use Rattle.fdt_walk.specs.ReaderWalk.{ReaderWalk, stops, reads, more, readerWal
 use Rattle.fdt_walk.specs.Token.{Stands, follow, Next, Goes, Takes}
 use Rattle.fdt_walk.proofs.Walked.{begin-opens, end-closes, property-stays}
 use Rattle.fdt_reader.specs.declared.Cursor.{Cursor}
+use Rattle.fdt_reader.specs.declared.Progress.{Progress}
 use Rattle.fdt_reader.specs.declared.Progress.the-variants as progress
 use Rattle.fdt_reader.specs.Pass.{put, putAll, result, resultFrom, resultAt, Placed, after, Stops, Continues, callsBelow}
 
@@ -114,13 +115,9 @@ module _ (b : List ℕ) (a : Areas) where
         child-less d h = omega (arith, next .moved .on, h .stops .on, h .stops .placed .stands .within)
 
       -- or the pass stopped in the child
-      module _ (list' : List ℕ) where
-        pub child-complete : (n : ℕ) → Continues b a (put list (c .count) t) (after s (c .count)) list' (progress.Complete n)
-            → Continues b a list₀ c₀ list' (progress.Complete n)
-        unfolding resultAt Stops
-        child-complete n h = record { same = same-on ∙ h .same; stops = tt }
-
-        pub child-refused : (fault : Fault) → Continues b a (put list (c .count) t) (after s (c .count)) list' (progress.Refused fault)
-            → Continues b a list₀ c₀ list' (progress.Refused fault)
-        unfolding resultAt Stops
-        child-refused fault h = record { same = same-on ∙ h .same; stops = tt }
+      pub child-stopped : (list' : List ℕ) (r : Progress) → ((d : Cursor) → r ≡ progress.Ended d → ⊥) → Continues b a (put list (c .count) t) (after s (c .count)) list' r
+          → Continues b a list₀ c₀ list' r
+      unfolding resultAt Stops
+      child-stopped list' (progress.Ended d) n h = absurd (n d refl)
+      child-stopped list' (progress.Complete m) n h = record { same = same-on ∙ h .same; stops = tt }
+      child-stopped list' (progress.Refused fault) n h = record { same = same-on ∙ h .same; stops = tt }

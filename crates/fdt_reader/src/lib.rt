@@ -62,7 +62,7 @@ fn put_entry(list: &mut [u32], n: usize, t: Entry)
 }
 
 // Reads a node from its begin on, which is the n-th entry: the begin, all that is in the node, and its end.
-fn node(blob: &[u8], a: Areas, list: &mut [u32], t: Entry, next: State, n: usize) -> Progress
+fn node(blob: &[u8], a: Areas, t: Entry, next: State, n: usize, list: &mut [u32]) -> Progress
     requires { ⌜ Trimmed (now blob) a × (Stands a next × (n < next .at)) ⌝ }
     ensures { λ r. ⌜ Continues (now (blob .entry)) a (put (now (list .entry)) n t) (after next n) (now (list .exit)) r ⌝ }
 {
@@ -71,12 +71,12 @@ fn node(blob: &[u8], a: Areas, list: &mut [u32], t: Entry, next: State, n: usize
         state: next,
         count: n + 1,
     };
-    children(blob, a, list, c)
+    children(blob, a, c, list)
 }
 
 // Reads all that is in a node: its properties, its children, each of which is a node again, and its end. Outside every node it
 // reads to the final word.
-fn children(blob: &[u8], a: Areas, list: &mut [u32], from: Cursor) -> Progress
+fn children(blob: &[u8], a: Areas, from: Cursor, list: &mut [u32]) -> Progress
     requires { ⌜ Trimmed (now blob) a × Placed a from ⌝ }
     ensures { λ r. ⌜ Continues (now (blob .entry)) a (now (list .entry)) from (now (list .exit)) r ⌝ }
 {
@@ -90,12 +90,11 @@ fn children(blob: &[u8], a: Areas, list: &mut [u32], from: Cursor) -> Progress
             Token::Final => return Progress::Complete(n),
             Token::Entry(t, next) => {
                 if t.token == FDT_BEGIN_NODE {
-                    let child = node(blob, a, list, t, next, n);
-                    match child {
-                        Progress::Ended(d) => c = d,
-                        Progress::Complete(m) => return Progress::Complete(m),
-                        Progress::Refused(fault) => return Progress::Refused(fault),
-                    }
+                    let child = node(blob, a, t, next, n, list);
+                    let Progress::Ended(d) = child else {
+                        return child;
+                    };
+                    c = d;
                 } else {
                     put_entry(list, n, t);
                     c = Cursor {
@@ -131,7 +130,7 @@ fn survey_structure(blob: &[u8], a: Areas, reservations: usize) -> Surveyed
     ensures { λ r. ⌜ r ≡ surveyedWalk a reservations (readerWalk (now (blob .entry)) a (walkStart a)) ⌝ }
 {
     let mut none: [u32; 1] = [0; 1];
-    let pass = children(blob, a, &mut none[..0], first(a));
+    let pass = children(blob, a, first(a), &mut none[..0]);
     match pass {
         Progress::Complete(n) => Surveyed::Whole(a, reservations, n),
         Progress::Refused(fault) => Surveyed::Refused(fault),
@@ -181,7 +180,7 @@ pub fn read(blob: &[u8], list: &mut [u32]) -> Reading
             if list.len() / 4 < entries {
                 return Reading::ShortList;
             }
-            children(blob, a, list, first(a));
+            children(blob, a, first(a), list);
             Reading::Done(a.boot, reservations, entries)
         }
     }

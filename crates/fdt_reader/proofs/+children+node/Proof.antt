@@ -1,15 +1,17 @@
 -- `node` and `children` call each other: what is to come of the pass stays the same. Each call has fewer nodes left that may be
 -- open than the one around it, and each turn of the loop less of the structure.
 use mathlib.Core.Path.{_≡_, refl}
+use mathlib.Core.List.{[], _∷_}
 use Prim.Native.Nat.{ℕ, suc, _-_, _<_}
 use native.Mathlib.Omega.{arith}
 use borrow.Author.Needs.{needs}
 use borrow.Fn.Kinds.{In}
 use borrow.Fn.PlainCycle.{Measures, is, falls, and}
 use lib.ListN.{length}
+use types.Run.{miss}
 use Rattle.fdt_walk.proofs.token_at.Reads as token-at-reads
 use Rattle.fdt_reader.specs.Pass.{callsBelow}
-use Rattle.fdt_reader.proofs.Passes.{count-small, place-small, Onward, onward-none, at-fault, at-final, next, next-stands, after-property, at-end, fewer-calls, child-ended, child-less, child-complete, child-refused}
+use Rattle.fdt_reader.proofs.Passes.{count-small, place-small, Onward, onward-none, at-fault, at-final, next, next-stands, after-property, at-end, fewer-calls, child-ended, child-less, child-stopped}
 use Rattle.fdt_reader.proofs.put_entry.Reads as put-entry-reads
 use Rattle.fdt_reader.proofs.children.Reads as children
 use Rattle.fdt_reader.proofs.children.Kinds as children-kinds
@@ -22,10 +24,10 @@ use Rattle.fdt_reader.proofs.+children+node.Tie.{close}
 
 -- how many calls can be nested below each
 abbrev μ-children : Measures 2 children-kinds.ps ℕ
-μ-children κs x = callsBelow (x .1 .1 .1 .0 .state)
+μ-children κs x = callsBelow (x .1 .1 .0 .state)
 
 abbrev μ-node : Measures 2 node-kinds.ps ℕ
-μ-node κs x = suc (callsBelow (x .1 .1 .1 .1 .0))
+μ-node κs x = suc (callsBelow (x .1 .1 .1 .0))
 
 abbrev children-at : ℕ → In 2 children-kinds.ps
 children-at t = and 2 children-kinds.ps (is 2 children-kinds.ps μ-children t) children.Pre
@@ -106,26 +108,15 @@ module _ (t : ℕ) where
 
   children-returns-3 : children-lts.Need-returns-3 (children-claims t) (children-at t) children.Post Inv-loop μ-loop
   children-returns-3 c =
-      let lists = c .before .before .before in
-      let child = lists .before .before in
+      let child = c .before .before .before in
       let begin = child .before .before in
       let entry = begin .before .before .before in
       let token = entry .before .before in
       let loop = token .before .before in
-      child-complete _ _ (loop .loop .inv .1) (token .token-at .ensures) (entry .taken2 .given .1) _ _ (rw (c .before .child2 .given .1) at (child .node .ensures))
+      child-stopped _ _ (loop .loop .inv .1) (token .token-at .ensures) (entry .taken2 .given .1) _ _ (λ d q. miss (1 ∷ 2 ∷ []) 0 tt (rw q at (c .match2 .keys2))) (child .node .ensures)
 
-  children-returns-4 : children-lts.Need-returns-4 (children-claims t) (children-at t) children.Post Inv-loop μ-loop
-  children-returns-4 c =
-      let lists = c .before .before .before in
-      let child = lists .before .before in
-      let begin = child .before .before in
-      let entry = begin .before .before .before in
-      let token = entry .before .before in
-      let loop = token .before .before in
-      child-refused _ _ (loop .loop .inv .1) (token .token-at .ensures) (entry .taken2 .given .1) _ _ (rw (c .before .child3 .given .1) at (child .node .ensures))
-
-  children-add-t22 : children-lts.Need-add-t22 (children-claims t) (children-at t) children.Post Inv-loop μ-loop
-  children-add-t22 c =
+  children-add-t20 : children-lts.Need-add-t20 (children-claims t) (children-at t) children.Post Inv-loop μ-loop
+  children-add-t20 c =
       let put = c .before .before in
       let other = put .before .before in
       let entry = other .before .before .before in
@@ -133,8 +124,8 @@ module _ (t : ℕ) where
       let start = loop .before .before .before in
       omega (arith, count-small (start .pre .1 .0) (loop .loop .inv .1 .placed))
 
-  children-returns-5 : children-lts.Need-returns-5 (children-claims t) (children-at t) children.Post Inv-loop μ-loop
-  children-returns-5 c =
+  children-returns-4 : children-lts.Need-returns-4 (children-claims t) (children-at t) children.Post Inv-loop μ-loop
+  children-returns-4 c =
       let put = c .before .before .before .before in
       let other = put .before .before in
       let entry = other .before .before .before in
@@ -191,17 +182,14 @@ pub +children+node-spec : {M : Type 1} → statement M
     (children-returns-2 t)
     (λ c. search needs)
     (children-node-requires t)
-    (λ c. search needs)
-    (children-loop-less t)
-    (children-loop-again t)
     (λ c. search needs) (λ c. search needs)
     (children-returns-3 t)
-    (λ c. search needs) (λ c. search needs)
-    (children-returns-4 t)
+    (children-loop-less t)
+    (children-loop-again t)
     (λ c κs. search needs)
-    (children-add-t22 t)
+    (children-add-t20 t)
     (λ c. search needs)
-    (children-returns-5 t)
+    (children-returns-4 t)
     (children-loop-less-2 t)
     (children-loop-again-2 t))
     λ t. node-lts.spec (node-claims t) (node-at t) node.Post

@@ -15,7 +15,7 @@ children-requires c κs =
     let told = c .before .before .before .before in
     let survey = told .before .before in
     let ready = seen-ready _ (seen-whole _ (sym (told .seen2 .given .1) ∙ survey .survey .ensures)) (survey .before .before .shared-slice-known .given) in
-    (ready .0, rw (c .first .ensures) (ready .1))
+    (ready .0, rw (c .before .first .ensures) (ready .1))
 
 returns-2 : tie.Need-returns-2
 returns-2 c = reads-refused _ _ (sym (c .before .seen .given .1) ∙ c .before .before .before .survey .ensures)
@@ -26,7 +26,7 @@ returns-3 c =
     let room = pass .before .before .before in
     let told = room .before .before in
     let s = seen-whole _ (sym (told .seen2 .given .1) ∙ told .before .before .survey .ensures) in
-    reads-done _ _ s _ (room .if1 .left) (rw (pass .before .first .ensures) at (pass .children .ensures))
+    reads-done _ _ s _ (room .if1 .left) (rw (pass .before .before .first .ensures) at (pass .children .ensures))
 
 pub read-spec : {M : Type 1} → statement M
 read-spec =
