@@ -1,10 +1,10 @@
 -- The blob of a description is read as that description: header, reservations and structure, each where the header says.
-use mathlib.Core.Path.{_≡_, refl, sym, ap, _∙_}
+use mathlib.Core.Path.{_≡_, refl, sym, ap, subst, _∙_}
 use mathlib.Core.Logic.{_↔_}
 use mathlib.Core.Bool.{false}
 use mathlib.Core.List.{List, [], _++_, append-nil}
 use mathlib.Core.Option.{Option, some, Option·some-injective}
-use Prim.Native.Nat.{ℕ, _+_, _-_, _/_, _≤_, _<_, _^_}
+use Prim.Native.Nat.{ℕ, _+_, _-_, _/_, _<_, _^_}
 use native.Mathlib.Omega.{arith}
 use lib.ListN.{length, length-append}
 use Rattle.fdt_strings.specs.Entries.{joined}
@@ -14,7 +14,8 @@ use Rattle.fdt_format.specs.Events.{Event, events, nodesOf}
 use Rattle.fdt_header.specs.Header.{headerSize, structureStart, reservationBytes, headerBytes}
 use Rattle.fdt_format.specs.Tokens.{finalBytes}
 use Rattle.fdt_format.specs.Reading.{areasOf, described, readReservations, readNodes, reading}
-use Rattle.fdt_format.specs.Blob.{namesOf, structureBytes, numbersOf, blobFrom, blobOf, AllPlain, AllReservable, WellFormed}
+use Rattle.fdt_format.specs.Walk.{walkStart}
+use Rattle.fdt_format.specs.Blob.{namesOf, structureBytes, eventsSize, numbersOf, blobFrom, blobOf, AllPlain, AllReservable, WellFormed}
 use Rattle.fdt_header.proofs.HeaderBytes.{length-header}
 use Rattle.fdt_format.proofs.HeaderRead.{areasFrom, areas-read, header-good}
 use Rattle.fdt_format.proofs.Nodes.{Accepted, nodes-events, accepted-events}
@@ -22,7 +23,7 @@ use Rattle.fdt_format.proofs.ReservationsRead.{length-reservations, res
 use Rattle.fdt_format.proofs.Structure.{structure-size}
 use Rattle.fdt_format.proofs.Tokens.{length-final}
 use Rattle.fdt_format.proofs.Words.{BytesAt, bytes-left, bytes-right}
-use Rattle.fdt_format.proofs.Written.{Laid, nodes-read}
+use Rattle.fdt_format.proofs.Written.{Walked, Laid, laid-walked, nodes-read}
 
 module _ (rs : List Reservation) (boot : ℕ) (es : List Event) where
   -- where the structure ends and the strings begin
@@ -80,16 +81,32 @@ module _ (rs : List Reservation) (boot : ℕ) (es : List Event) where
         reservations-read (blobFrom rs boot es) rs ((length (blobFrom rs boot es) - headerSize) / 16) headerSize t (omega (arith, length-from))
         (bytes-left (reservationBytes (numbersOf rs)) behind rest-held)
 
+    -- its header names them
+    areas-named : areasOf (blobFrom rs boot es) ≡ areas
+    unfolding areas
+    areas-named = areas-read (blobFrom rs boot es) (length rs) stringsStart (length (joined (namesOf es))) boot header-held (omega arith) length-from small boots
+
+    -- where its structure and its strings begin
+    pub structure-from : areasOf (blobFrom rs boot es) .structure ≡ structureStart (length rs)
+    unfolding areasFrom areas
+    structure-from = ap (λ (a : Areas). a .structure) areas-named
+
+    pub strings-from : areasOf (blobFrom rs boot es) .strings ≡ structureStart (length rs) + eventsSize es + 4
+    unfolding areasFrom areas
+    strings-from = ap (λ (a : Areas). a .strings) areas-named ∙ ap (λ (n : ℕ). structureStart (length rs) + n + 4) (structure-size (namesOf es) es)
+
+    -- its walk finds the entries of the events
+    pub walk-from : AllPlain es → Accepted 0 false es → let a : Areas = areasOf (blobFrom rs boot es) in Walked (blobFrom rs boot es) a (namesOf es) (walkStart a) es
+    walk-from p c = subst (λ (a : Areas). Walked (blobFrom rs boot es) a (namesOf es) (walkStart a) es) (sym areas-named) (laid-walked (blobFrom rs boot es) areas es laid c p)
+
     -- the blob of reservations, a boot number and events in order is read as these, with the nodes of the events
     pub read-from : AllReservable rs → AllPlain es → Accepted 0 false es → reading (blobFrom rs boot es) ≡ described boot (some rs) (nodesOf es)
     unfolding reading areasFrom areas
     read-from t p c =
         let b = blobFrom rs boot es in
-        let k : structureStart (length rs) ≤ stringsStart = omega arith in
-        let good = header-good b (length rs) stringsStart (length (joined (namesOf es))) boot header-held k length-from small boots in
-        let named : areasOf b ≡ areas = areas-read b (length rs) stringsStart (length (joined (namesOf es))) boot header-held k length-from small boots in
+        let good = header-good b (length rs) stringsStart (length (joined (namesOf es))) boot header-held (omega arith) length-from small boots in
         rw good
-        (ap (λ (a : Areas). described (a .boot) (readReservations b a) (readNodes b a)) named
+        (ap (λ (a : Areas). described (a .boot) (readReservations b a) (readNodes b a)) areas-named
         ∙ ap (λ (r : Option (List Reservation)). described boot r (readNodes b areas)) (reserved-read t)
         ∙ ap (described boot (some rs)) (nodes-read b areas es laid c p))
 
