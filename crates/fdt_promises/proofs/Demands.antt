@@ -32,6 +32,7 @@ use Rattle.fdt_calls.proofs.Refused.{refused-after}
 use Rattle.fdt_calls.proofs.Table.{Neither34, first-row, answers-exactly, never-given}
 use Rattle.fdt_promises.specs.Effects.{own, ownEntry, Changed, Alike}
 use Rattle.fdt_promises.specs.Run.{tells, reservationsOf, Holds, FitDesk, Misgiven, Run, desk, history, eventsIn, bootIn, marksIn, description, Finishes, blob, OneMore}
+use Rattle.fdt_promises.specs.ReadBack.{ReadBack}
 use Rattle.fdt_promises.specs.Examples.{emptyWords, nodeWords}
 use Rattle.fdt_promises.specs.Starred.{allHold, starred}
 use Rattle.fdt_promises.proofs.OwnBytes.{recorded-own, only-own}
@@ -39,6 +40,7 @@ use Rattle.fdt_promises.proofs.PastUsable.{past-usable, shown-usable}
 use Rattle.fdt_promises.proofs.Described.{run-holds, run-fits, run-given, run-shown, run-length, run-read, same-runs, same-history}
 use Rattle.fdt_promises.proofs.Examples.{empty-run, node-run, examples-shown}
 use Rattle.fdt_promises.proofs.Idle.{same-told, same-kinds, kinds-as-bytes, same-phandle, one-more}
+use Rattle.fdt_promises.proofs.ReadBack.{read-back}
 use Rattle.fdt_promises.proofs.Starred.{starred-hold}
 
 -- ---- demand 1: any call with any arguments, over any record and buffers of any size
@@ -120,6 +122,11 @@ reading-returns = run-read
 -- The same holds for every description that the format can hold, not only for those of runs.
 pub reading-of-any : (d : Description) → WellFormed d → reading (blobOf d) ≡ some d
 reading-of-any = read-blob
+
+-- The reader reads the shown blob: what it answers, and the entries that it writes to a list, are counted from the opening and the
+-- accepted calls. If the list has too little room, it refuses 30 and writes nothing.
+pub finished-is-read : (r : Run) → Finishes r → (before : List ℕ) → ReadBack r before
+finished-is-read = read-back
 
 -- Demand 3. Two finished runs show the same bytes exactly when they describe the same thing.
 pub demand-3 : (r q : Run) → Finishes r → Finishes q → (blob r ≡ blob q) ↔ (description r ≡ description q)

@@ -1,14 +1,15 @@
 -- A run's description and its blob: from what the desk holds before finish, through finish, to the reading of the blob.
 use mathlib.Core.Path.{_≡_, sym, ap, _∙_}
 use mathlib.Core.Bool.{false}
-use mathlib.Core.List.{List}
+use mathlib.Core.List.{List, []}
 use mathlib.Core.Logic.{_↔_}
 use mathlib.Core.Option.{some, Option·some-injective}
 use Prim.Native.Nat.{ℕ, _+_}
 use lib.ListN.{length}
 use Rattle.fdt_strings.specs.Entries.{joined}
 use Rattle.fdt_format.specs.Blob.{namesOf, structureBytes, eventsSize, blobFrom, blobOf, WellFormed}
-use Rattle.fdt_format.specs.Description.{Description}
+use Rattle.fdt_format.specs.Description.{Nodes, Description}
+use Rattle.fdt_format.specs.Events.{events}
 use Rattle.fdt_header.specs.Header.{structureStart}
 use Rattle.fdt_format.specs.Reading.{reading}
 use Rattle.fdt_format.proofs.ReadBack.{length-from, read-blob}
@@ -24,12 +25,17 @@ use Rattle.fdt_promises.proofs.Fitting.{open-fits, only-given}
 use Rattle.fdt_promises.proofs.Held.{Open}
 use Rattle.fdt_promises.proofs.Runs.{opened-open, runs-open}
 
+-- the description of a run whose events are those of these nodes
+abbrev pub toldBy : Run → Nodes → Description
+toldBy r nodes = record { reservations = reservationsOf (r .numbers); boot = bootIn r; nodes = nodes }
+
 -- the description of a run, which the format can hold, and its bytes
-record Told (r : Run) : Type 0 where
-  told : Description
-  is : description r ≡ some told
-  bytes : blob r ≡ blobOf told
-  fits : WellFormed told
+pub record Told (r : Run) : Type 0 where
+  pub nodes : Nodes
+  pub events-are : events nodes [] ≡ eventsIn r
+  pub is : description r ≡ some (toldBy r nodes)
+  pub bytes : blob r ≡ blobOf (toldBy r nodes)
+  pub fits : WellFormed (toldBy r nodes)
 
 module _ (r : Run) where
   -- a run that is not finished is open
@@ -52,9 +58,13 @@ module _ (r : Run) where
   unfolding answer
   opening-fits = opened-fits (length (r .before .blob)) _ _ (r .numbers) (r .opened)
 
+  -- as many reservations as pairs
+  pub run-count : length (reservationsOf (r .numbers)) ≡ count (r .numbers)
+  run-count = count-paired (r .numbers) (opening-fits .even)
+
   module _ (f : Finishes r) where
     -- before its finish it is open
-    at-end : Open (r .numbers) (eventsIn r) (bootIn r) (marksIn r) (desk r)
+    pub at-end : Open (r .numbers) (eventsIn r) (bootIn r) (marksIn r) (desk r)
     unfolding Finishes answer
     at-end = run-open (finish-fits (desk r .writer) (length (desk r .blob)) (desk r .strings) f .unfinished)
 
@@ -62,29 +72,30 @@ module _ (r : Run) where
     unfolding Finishes blob
     shown-from = shown-bytes at-end f (opening-fits .even)
 
-    run-told : Told r
+    pub run-told : Told r
     unfolding Finishes description describe withNodes blobOf
     run-told =
         let n = nodes-told at-end f in
         record {
-          told = record { reservations = reservationsOf (r .numbers); boot = bootIn r; nodes = n .0 };
+          nodes = n .0;
+          events-are = n .2;
           is = ap (withNodes (reservationsOf (r .numbers)) (bootIn r)) (n .1);
           bytes = shown-from ∙ ap (blobFrom (reservationsOf (r .numbers)) (bootIn r)) (sym (n .2));
           fits = well-formed at-end f (opening-fits .even) (opening-fits .valid) (at-end .small) (n .0) (n .2);
         }
 
     pub run-shown : (d : Description) × (description r ≡ some d) × (blob r ≡ blobOf d)
-    run-shown = (run-told .told, run-told .is, run-told .bytes)
+    run-shown = (toldBy r (run-told .nodes), run-told .is, run-told .bytes)
 
     pub run-length : length (blob r) ≡ structureStart (count (r .numbers)) + eventsSize (eventsIn r) + 4 + length (joined (namesOf (eventsIn r)))
     run-length =
         let es = eventsIn r in
         ap length shown-from ∙ length-from (reservationsOf (r .numbers)) (bootIn r) es
-        ∙ ap (λ (n : ℕ). structureStart n + length (structureBytes (namesOf es) es) + 4 + length (joined (namesOf es))) (count-paired (r .numbers) (opening-fits .even))
+        ∙ ap (λ (n : ℕ). structureStart n + length (structureBytes (namesOf es) es) + 4 + length (joined (namesOf es))) run-count
         ∙ ap (λ (n : ℕ). structureStart (count (r .numbers)) + n + 4 + length (joined (namesOf es))) (structure-size (namesOf es) es)
 
     pub run-read : reading (blob r) ≡ description r
-    run-read = ap reading (run-told .bytes) ∙ read-blob (run-told .told) (run-told .fits) ∙ sym (run-told .is)
+    run-read = ap reading (run-told .bytes) ∙ read-blob (toldBy r (run-told .nodes)) (run-told .fits) ∙ sym (run-told .is)
 
 module _ (r q : Run) where
   pub same-runs : Finishes r → Finishes q → (blob r ≡ blob q) ↔ (description r ≡ description q)
@@ -92,7 +103,7 @@ module _ (r q : Run) where
       let t = run-told r f in
       let u = run-told q g in (
         λ e. sym (run-read r f) ∙ ap reading e ∙ run-read q g,
-        λ e. t .bytes ∙ ap blobOf (Option·some-injective (t .told) (u .told) (sym (t .is) ∙ e ∙ u .is)) ∙ sym (u .bytes),
+        λ e. t .bytes ∙ ap blobOf (Option·some-injective (toldBy r (t .nodes)) (toldBy q (u .nodes)) (sym (t .is) ∙ e ∙ u .is)) ∙ sym (u .bytes),
       )
 
   pub same-history : r .numbers ≡ q .numbers → history r ≡ history q → description r ≡ description q

@@ -24,6 +24,7 @@ use Rattle.fdt_strings.proofs.Places.{known-found, new-placed}
 use Rattle.fdt_format.specs.Events.{Event, begins, has, ends}
 use Rattle.fdt_format.specs.Blob.{orAtEnd, withName, foundAt, offsetOf, eventSize, eventsSize, Plain, AllPlain}
 use Rattle.fdt_format.proofs.Nodes.{Accepted}
+use Rattle.fdt_walk.proofs.Capped.{Shallow}
 use Rattle.fdt_record.specs.Limits.{stringsCeiling, mostDepth, usable}
 use Rattle.fdt_record.proofs.Fits.{usable-within}
 use Rattle.fdt_properties.specs.Property.{isFull, added, stored, placeOffset}
@@ -160,3 +161,9 @@ still-accepted (suc depth) true (has p) rest f a = absurd (true≢false (f .1))
 still-accepted (suc depth) false (has p) rest f a = a
 still-accepted zero ended ends rest f a = absurd (omega arith)
 still-accepted (suc depth) ended ends rest f a = subst (λ (n : ℕ). Accepted n true rest) (let z : suc depth - 1 ≡ depth = omega arith in z) a
+
+pub still-nested : (depth : ℕ) (ended : Bool) (e : Event) (rest : List Event) → Follows depth ended e → depth ≤ mostDepth → Shallow (mostDepth - deepens depth e) rest → Shallow (mostDepth - depth) (e ∷ rest)
+unfolding Follows deepens Shallow
+still-nested depth ended (begins name) rest f h s = let q : mostDepth - depth ≡ suc (mostDepth - (depth + 1)) = omega arith in rw q s
+still-nested depth ended (has p) rest f h s = s
+still-nested depth ended ends rest f h s = let q : mostDepth - (depth - 1) ≡ suc (mostDepth - depth) = omega arith in subst (λ (k : ℕ). Shallow k rest) q s

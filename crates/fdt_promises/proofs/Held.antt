@@ -18,6 +18,7 @@ use Rattle.fdt_format.specs.Tokens.{beginBytes, propertyBytes, endBytes}
 use Rattle.fdt_format.proofs.Nodes.{Accepted}
 use Rattle.fdt_format.proofs.Strings.{names-snoc, names-plain}
 use Rattle.fdt_format.proofs.Structure.{structure-snoc, event-size}
+use Rattle.fdt_walk.proofs.Capped.{Shallow}
 use Rattle.fdt_record.specs.declared.Answer.the-variants.{Done}
 use Rattle.fdt_record.specs.Answers.{accepts, upon}
 use Rattle.fdt_record.specs.Limits.{blobCeiling, stringsCeiling, phandlesCeiling, mostReservations, mostDepth}
@@ -35,10 +36,10 @@ use Rattle.fdt_calls.specs.Calls.{Request, to-open, to-boot, to-begin, to-end, 
 use Rattle.fdt_calls.proofs.Refused.{marked-answer, marked-after, refused-mark, refused-after}
 use Rattle.fdt_promises.specs.Run.{Filled, Holds, addedBy, tells, bootAfter, boots, recordedBy, deepens, closes, InRun}
 use Rattle.fdt_promises.proofs.Desks.{grown, booted-after, begun-after, ended-after, had-after, finished-after}
-use Rattle.fdt_promises.proofs.Growth.{more-filled, one-filled, no-zero, named, plain-snoc, size-snoc, depth-snoc, ended-snoc, Follows, still-shallow, still-accepted}
+use Rattle.fdt_promises.proofs.Growth.{more-filled, one-filled, no-zero, named, plain-snoc, size-snoc, depth-snoc, ended-snoc, Follows, still-shallow, still-accepted, still-nested}
 
 -- what an open run holds, with what only the proofs need: at most 64 reservations, a boot number of 32 bits, at most 64 open nodes,
--- names without a byte 0, and events that nodes can go on from
+-- names without a byte 0, and events that nodes can go on from, with at most 64 of them open at once
 pub record Open (numbers : List ℕ) (es : List Event) (boot : ℕ) (marks : List ℕ) (s : Desk) : Type 0 where
   pub holds : Holds numbers es boot marks s
   pub few : count numbers ≤ mostReservations
@@ -46,6 +47,7 @@ pub record Open (numbers : List ℕ) (es : List Event) (boot : ℕ) (marks : Lis
   pub shallow : s .writer .«node_depth» ≤ mostDepth
   pub plain : AllPlain es
   pub leads : (rest : List Event) → Accepted (s .writer .«node_depth») (s .writer .«node_ended») rest → Accepted 0 false (es ++ rest)
+  pub nests : (rest : List Event) → Shallow (mostDepth - s .writer .«node_depth») rest → Shallow mostDepth (es ++ rest)
 
 -- ---- one more event
 
@@ -87,6 +89,7 @@ module _ {numbers : List ℕ} {es : List Event} {boot : ℕ} {marks : List ℕ} 
         shallow = still-shallow (w .«node_depth») (w .«node_ended») e (a .follows) (o .shallow);
         plain = plain-snoc es e (o .plain) (a .plain);
         leads = λ rest r. subst (Accepted 0 false) (sym (append-assoc es (e ∷ []) rest)) (o .leads (e ∷ rest) (still-accepted (w .«node_depth») (w .«node_ended») e rest (a .follows) r));
+        nests = λ rest r. subst (Shallow mostDepth) (sym (append-assoc es (e ∷ []) rest)) (o .nests (e ∷ rest) (still-nested (w .«node_depth») (w .«node_ended») e rest (a .follows) (o .shallow) r));
       }
 
   -- an event without a new name leaves the strings as they are
@@ -162,6 +165,7 @@ module _ {numbers : List ℕ} {es : List Event} {boot : ℕ} {marks : List ℕ} 
         shallow = o .shallow;
         plain = o .plain;
         leads = o .leads;
+        nests = o .nests;
       }
 
   booted-open : (n : ℕ) → n < 2 ^ 32 → answer (to-boot n) s ≡ Done → Open numbers es n marks (after (to-boot n) s)

@@ -9,6 +9,7 @@ pub mod Held
 pub mod Idle
 pub mod OwnBytes
 pub mod PastUsable
+pub mod ReadBack
 pub mod Runs
 pub mod Starred
 pub mod Usable

@@ -59,6 +59,7 @@ opened-open s numbers e =
       shallow = omega arith;
       plain = tt;
       leads = λ rest a. a;
+      nests = λ rest a. a;
     })
 
 -- ---- after a finish
