@@ -1,4 +1,4 @@
--- The reader answers each number exactly when; it accepts what the reading describes, nested at most 64 deep, and tells just that.
+-- A survey and the reader answer each answer exactly when; the reader accepts what the reading describes, nested at most 64 deep, and tells just that.
 use mathlib.Core.Logic.{_↔_}
 use mathlib.Core.Path.{_≡_, refl, sym, ap, subst, _∙_}
 use mathlib.Core.Bool.{Bool, true, false, cond}
@@ -10,41 +10,42 @@ use borrow.Author.Tests.{ltb-true, ltb-false, lt-ltb, le-ltb}
 use lib.Dec.{ltb}
 use lib.ListN.{length, length-map}
 use Rattle.fdt_format.specs.declared.Entry.{Entry}
+use Rattle.fdt_format.specs.declared.Unreadable.the-variants.{Reservations, Structure, NameOffset}
 use Rattle.fdt_format.specs.Description.{Description}
 use Rattle.fdt_format.specs.Events.{events}
 use Rattle.fdt_format.specs.Reading.{areasOf, eventAt, reading as readingOf}
 use Rattle.fdt_format.specs.Walk.{walkStart}
 use Rattle.fdt_format.proofs.Nested.{Parts, reading-is, read-exactly}
+use Rattle.fdt_walk.specs.declared.Refusal.{Refusal}
+use Rattle.fdt_walk.specs.declared.Refusal.the-variants as refusal
 use Rattle.fdt_walk.specs.Depth.{mostOpen, AtMost}
-use Rattle.fdt_walk.specs.Reached.{structure, name-offset, depth}
+use Rattle.fdt_walk.specs.Refusals.{numberOf as refusalNumber}
 use Rattle.fdt_walk.specs.ReaderWalk.{reads, readerWalk}
 use Rattle.fdt_walk.proofs.Capped.{Shallow, shallow-nodes, reads-exactly, deep-stops}
-use Rattle.fdt_walk.proofs.Reached.{stops-exactly}
 use Rattle.fdt_reader.specs.declared.Reading.{Reading}
 use Rattle.fdt_reader.specs.declared.Reading.the-variants as reading
-use Rattle.fdt_reader.specs.Numbers.{Opens, Describes, Numbered, header, reservations, token, short-list, done, Tells}
-use Rattle.fdt_reader.specs.Reader.{numberOf, noValues, valuesOf, Outcome, refused, accepted, refusedAt, fromWalk, fromReservations, outcome, answeredAs, answerOf, filled, listAs, listAfter, Read}
-use Rattle.fdt_reader.proofs.Outcomes.{Way, no-header, no-pair, no-token, all-read, way, from-walk}
+use Rattle.fdt_reader.specs.declared.Surveyed.{Surveyed}
+use Rattle.fdt_reader.specs.Numbers.{Opens, Describes, Numbered, first-fault, short-list, done, Surveys, refuses, whole, Tells}
+use Rattle.fdt_reader.specs.Reader.{numberOf, noValues, valuesOf, Outcome, refused, accepted, fromWalk, outcome, surveyedAs, surveyOf, answeredAs, answerOf, filled, listAs, listAfter, Read}
+use Rattle.fdt_reader.proofs.Outcomes.{Way, faulty, all-read, way, from-walk, fault-refused}
+
+-- the number of a refusal is not 0
+refusal-numbered : (r : Refusal) → refusalNumber r ≡ 0 → ⊥
+refusal-numbered refusal.Header q = omega arith
+refusal-numbered (refusal.Unreadable Reservations) q = omega arith
+refusal-numbered (refusal.Unreadable Structure) q = omega arith
+refusal-numbered (refusal.Unreadable NameOffset) q = omega arith
+refusal-numbered refusal.Depth q = omega arith
 
 -- ---- what is described
 
--- a description whose events the entries of a good walk are
-record Described (b : List ℕ) (ts : List Entry) : Type 0 where
-  description : Description
-  describes : Describes b description
-  events-are : map (eventAt b) ts ≡ events (description .nodes) []
-
 module _ (b : List ℕ) where
   -- a walk that the reader takes to its end describes something
-  walk-describes : (o : Opens b) (ts : List Entry) → readerWalk b (areasOf b) (walkStart (areasOf b)) ≡ reads ts → Described b ts
+  walk-describes : (o : Opens b) (ts : List Entry) → readerWalk b (areasOf b) (walkStart (areasOf b)) ≡ reads ts → (d : Description) × Describes b d
   walk-describes o ts w =
       let g = reads-exactly b (areasOf b) ts .0 w in
       let x = read-exactly b (o .found) ts (o .header) (o .reservations) (g .0) in
-      record {
-        description = _;
-        describes = record { read = x .2; shallow = shallow-nodes mostOpen (x .0) .0 (subst (Shallow mostOpen) (sym (x .1)) (g .1)) };
-        events-are = sym (x .1);
-      }
+      (_, record { read = x .2; shallow = shallow-nodes mostOpen (x .0) .0 (subst (Shallow mostOpen) (sym (x .1)) (g .1)) })
 
   -- and what is described is read to its end
   module _ {d : Description} (h : Describes b d) where
@@ -78,44 +79,49 @@ module _ (b : List ℕ) where
           let l : length (parts .entries) ≤ length list / 4 = omega (arith, described-count) in
           (rw (described-read, le-ltb _ _ l, parts .boot, described-count), rw (described-read, le-ltb _ _ l))
 
--- ---- each number exactly when
+-- ---- each answer exactly when
+
+-- an answer is any other exactly if that one's case holds: each case fixes the answer, and one holds
+by-cases : {A : Type 0} {x : A} (Case : A → Type 0) → ((y : A) → Case y → x ≡ y) → (y : A) × Case y → (y : A) → (x ≡ y) ↔ Case y
+by-cases Case fixes holds y = (λ q. subst Case (sym (fixes (holds .0) (holds .1)) ∙ q) (holds .1), fixes y)
+
+module _ (b : List ℕ) where
+  by-survey : {o : Outcome} → Way b o → (s : Surveyed) × Surveys b s
+  by-survey (faulty f) = (_, refuses f)
+  by-survey (all-read o {ts} w) = (_, whole (walk-describes b o ts w .1))
+
+  surveys : {s : Surveyed} → Surveys b s → surveyOf b ≡ s
+  unfolding surveyOf surveyedAs
+  surveys (refuses f) = rw (fault-refused b f)
+  surveys (whole h) = rw (described-read b h, described-count b h)
+
+  -- a survey answers s exactly if its case holds
+  pub survey-exactly : (s : Surveyed) → (surveyOf b ≡ s) ↔ Surveys b s
+  survey-exactly = by-cases (Surveys b) (λ _. surveys) (by-survey (way b))
 
 module _ (b list : List ℕ) where
-  by-room : (o : Opens b) (ts : List Entry) → Described b ts → (t : Bool) → ltb (length list / 4) (length ts) ≡ t
-      → Numbered b list (numberOf (cond t reading.ShortList (reading.Done (areasOf b .boot) (length (o .found)) (length ts))))
-  unfolding numberOf
-  by-room o ts x true e = short-list (x .describes) (omega (arith, ap length (x .events-are), length-map ts (eventAt b), ltb-true (length list / 4) (length ts) e))
-  by-room o ts x false e = done (x .describes) (omega (arith, ap length (x .events-are), length-map ts (eventAt b), ltb-false (length list / 4) (length ts) e))
+  by-room : {d : Description} → Describes b d → (t : Bool) → ltb (length list / 4) (length (events (d .nodes) [])) ≡ t → (n : ℕ) × Numbered b list n
+  by-room h true e = (_, short-list h (ltb-true _ _ e))
+  by-room h false e = (_, done h (ltb-false _ _ e))
 
-  by-way : {o : Outcome} → Way b o → Numbered b list (numberOf (answeredAs (areasOf b .boot) (length list) o))
-  unfolding answeredAs numberOf refusedAt
-  by-way (no-header h) = header h
-  by-way (no-pair h r) = reservations h r
-  by-way (no-token o {fault} w) = let m = stops-exactly b (areasOf b) fault .0 w in token o (m .reached) (m .wrong)
-  by-way (all-read o {ts} w) = by-room o ts (walk-describes b o ts w) _ refl
+  by-number : {o : Outcome} → Way b o → (n : ℕ) × Numbered b list n
+  by-number (faulty f) = (_, first-fault f)
+  by-number (all-read o {ts} w) = by-room (walk-describes b o ts w .1) _ refl
 
   numbered : {n : ℕ} → Numbered b list n → numberOf (answerOf b list) ≡ n
-  unfolding answerOf answeredAs numberOf outcome fromReservations fromWalk refusedAt
-  numbered (header h) = rw h
-  numbered (reservations h r) = rw (h, r)
-  numbered (token {s} {r} o reached wrong) =
-      rw (o .header, o .reservations, stops-exactly b (areasOf b) (record { refusal = r; place = s .at }) .1 (record { state = s; reached = reached; wrong = wrong; place = refl }))
+  unfolding answerOf answeredAs numberOf
+  numbered (first-fault f) = rw (fault-refused b f)
   numbered (short-list h less) = ap numberOf (described-short b h list less)
   numbered (done h room) = ap numberOf (described-done b h list room .0)
 
   -- the answer's number is n exactly if its case holds
   pub number-exactly : (n : ℕ) → (numberOf (answerOf b list) ≡ n) ↔ Numbered b list n
-  unfolding answerOf
-  number-exactly n = (λ q. subst (Numbered b list) q (by-way (way b)), λ x. numbered x)
+  number-exactly = by-cases (Numbered b list) (λ _. numbered) (by-number (way b))
 
   -- ---- acceptance
 
   accepts : {n : ℕ} → Numbered b list n → n ≡ 0 → (d : Description) × Describes b d × (length (events (d .nodes) []) ≤ length list / 4)
-  accepts (header h) q = absurd (omega arith)
-  accepts (reservations h r) q = absurd (omega arith)
-  accepts (token o reached (structure e)) q = absurd (omega arith)
-  accepts (token o reached (name-offset e)) q = absurd (omega arith)
-  accepts (token o reached (depth e deep)) q = absurd (omega arith)
+  accepts (first-fault {f} h) q = absurd (refusal-numbered (f .refusal) q)
   accepts (short-list h less) q = absurd (omega arith)
   accepts (done {d} h room) q = (d, h, room)
 

@@ -19,9 +19,9 @@ use Rattle.fdt_reader.specs.declared.Reading.the-variants as reading
 use Rattle.fdt_reader.specs.declared.Surveyed.the-variants as surveyed
 use Rattle.fdt_reader.specs.Numbers.{Opens}
 use Rattle.fdt_reader.specs.Pass.{Placed, Continues, first}
-use Rattle.fdt_reader.specs.Reader.{Outcome, refused, accepted, refusedAt, outcome, surveyedAs, surveyOf, answeredAs, answerOf, filled, listAs, listAfter, Read}
+use Rattle.fdt_reader.specs.Reader.{Outcome, refused, accepted, outcome, surveyedAs, surveyOf, answeredAs, answerOf, listAs, listAfter, Read}
 use Rattle.fdt_reader.proofs.Header.{cut-ready, start-trimmed}
-use Rattle.fdt_reader.proofs.Outcomes.{Way, no-header, no-pair, no-token, all-read, way}
+use Rattle.fdt_reader.proofs.Outcomes.{Way, faulty, all-read, way}
 use Rattle.fdt_reader.proofs.Whole.{first-placed, fills-list}
 
 -- the areas and counts of a survey, with the reservations and entries that were counted
@@ -36,10 +36,8 @@ pub record Seen (b : List ℕ) (a : Areas) (reservations entries : ℕ) : Type 0
 
 module _ (b : List ℕ) where
   see : {o : Outcome} → Way b o → o ≡ outcome b → (a : Areas) (n m : ℕ) → surveyed.Whole a n m ≡ surveyedAs (trimmed b (areasOf b)) o → Seen b a n m
-  unfolding surveyedAs refusedAt
-  see (no-header h) e a n m q = absurd (let z : _≡_ {A = ℕ} 0 1 = cc in omega arith)
-  see (no-pair h r) e a n m q = absurd (let z : _≡_ {A = ℕ} 0 1 = cc in omega arith)
-  see (no-token o w) e a n m q = absurd (let z : _≡_ {A = ℕ} 0 1 = cc in omega arith)
+  unfolding surveyedAs
+  see (faulty f) e a n m q = absurd (let z : _≡_ {A = ℕ} 0 1 = cc in omega arith)
   see (all-read o {ts} w) e a n m q =
       record { areas = cc; opens = o; read = ts; walked = w; outcome-is = sym e; reservations-is = cc; entries-is = cc }
 

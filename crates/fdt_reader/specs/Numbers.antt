@@ -1,4 +1,5 @@
--- When the reader answers with which number: the first fault wins. What an accepted call tells (document 02, request 1/14).
+-- When a survey answers what, and the reader which number: the first fault wins. What an accepted call tells (document 02,
+-- request 1/14).
 use mathlib.Core.Path.{_≡_}
 use mathlib.Core.Bool.{true, false}
 use mathlib.Core.List.{List, [], map}
@@ -6,14 +7,18 @@ use mathlib.Core.Option.{none, some}
 use Prim.Native.Nat.{ℕ, _/_, _≤_, _<_}
 use lib.ListN.{length}
 use Rattle.fdt_format.specs.declared.Entry.{Entry}
-use Rattle.fdt_format.specs.declared.State.{State}
+use Rattle.fdt_format.specs.declared.Unreadable.the-variants.{Reservations}
 use Rattle.fdt_format.specs.Description.{Reservation, Description}
 use Rattle.fdt_format.specs.Events.{events}
 use Rattle.fdt_format.specs.Reading.{areasOf, goodHeader, eventAt, readReservations, reading}
-use Rattle.fdt_walk.specs.declared.Refusal.{Refusal}
+use Rattle.fdt_read_token.specs.Trimmed.{trimmed}
+use Rattle.fdt_walk.specs.declared.Fault.{Fault}
+use Rattle.fdt_walk.specs.declared.Refusal.the-variants.{Header, Unreadable}
 use Rattle.fdt_walk.specs.Depth.{mostOpen, AtMost}
-use Rattle.fdt_walk.specs.Reached.{Reached, Wrong}
+use Rattle.fdt_walk.specs.Reached.{Meets}
 use Rattle.fdt_walk.specs.Refusals.{numberOf as refusalNumber}
+use Rattle.fdt_reader.specs.declared.Surveyed.{Surveyed}
+use Rattle.fdt_reader.specs.declared.Surveyed.the-variants.{Whole, Refused}
 use Rattle.fdt_reader.specs.Reader.{numberOf, valuesOf, answerOf, filled, listAfter}
 
 -- the header is good, and an all-zero pair ends the reservations inside the blob
@@ -27,17 +32,31 @@ pub record Describes (b : List ℕ) (d : Description) : Type 0 where
   pub read : reading b ≡ some d
   pub shallow : AtMost mostOpen (d .nodes)
 
-pub data Numbered (b list : List ℕ) : ℕ → Type 0 where
+-- the first fault of a blob, and its place
+pub data FirstFault (b : List ℕ) : Fault → Type 0 where
   -- the header is not good
-  header : goodHeader b ≡ false → Numbered b list 21
+  header : goodHeader b ≡ false → FirstFault b (record { refusal = Header; place = 0 })
   -- it is, and no all-zero pair is inside the blob
-  reservations : goodHeader b ≡ true → readReservations b (areasOf b) ≡ none → Numbered b list 22
-  -- both are, and the token at a state that is reached is wrong: 23, 24 or 25
-  token : {s : State} {r : Refusal} → Opens b → Reached b (areasOf b) s → Wrong b (areasOf b) s r → Numbered b list (refusalNumber r)
+  reservations : goodHeader b ≡ true → readReservations b (areasOf b) ≡ none
+      → FirstFault b (record { refusal = Unreadable Reservations; place = areasOf b .reservations })
+  -- both are, and the token at a state that is reached is wrong: structure, name offset or depth
+  token : {f : Fault} → Opens b → Meets b (areasOf b) f → FirstFault b f
+
+-- the number of the reader's answer
+pub data Numbered (b list : List ℕ) : ℕ → Type 0 where
+  -- the blob has a fault: 21 to 25
+  first-fault : {f : Fault} → FirstFault b f → Numbered b list (refusalNumber (f .refusal))
   -- all is good, and the list has too little room, with four numbers for each entry
   short-list : {d : Description} → Describes b d → length list / 4 < length (events (d .nodes) []) → Numbered b list 30
   -- all is good, and the list has room
   done : {d : Description} → Describes b d → length (events (d .nodes) []) ≤ length list / 4 → Numbered b list 0
+
+-- what a survey answers
+pub data Surveys (b : List ℕ) : Surveyed → Type 0 where
+  -- the blob has a fault
+  refuses : {f : Fault} → FirstFault b f → Surveys b (Refused f)
+  -- all is good: its areas, with the strings cut, and how many reservations and entries it has
+  whole : {d : Description} → Describes b d → Surveys b (Whole (trimmed b (areasOf b)) (length (d .reservations)) (length (events (d .nodes) [])))
 
 -- what an accepted call tells of a description: the boot number and the counts are its own, and the entries at the front of the
 -- list are those of its events, each with its place, the place of its name and the length of its value

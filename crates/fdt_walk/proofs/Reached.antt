@@ -20,16 +20,9 @@ use Rattle.fdt_walk.specs.declared.Fault.{Fault}
 use Rattle.fdt_walk.specs.declared.Refusal.{Refusal}
 use Rattle.fdt_walk.specs.declared.Refusal.the-variants.{Unreadable}
 use Rattle.fdt_walk.specs.Depth.{mostOpen}
-use Rattle.fdt_walk.specs.Reached.{Reached, first, next, Wrong, structure, name-offset, depth}
+use Rattle.fdt_walk.specs.Reached.{Reached, first, next, Wrong, structure, name-offset, depth, Meets}
 use Rattle.fdt_walk.specs.ReaderWalk.{ReaderWalk, stops, reads, more, refusedAt, capped, readerSteps, readerWalk}
 use Rattle.fdt_walk.proofs.Walked.{reader-step}
-
--- a state that is reached, with what is wrong there
-pub record Meets (b : List ℕ) (a : Areas) (f : Fault) : Type 0 where
-  pub state : State
-  pub reached : Reached b a state
-  pub wrong : Wrong b a state (f .refusal)
-  pub place : f .place ≡ state .at
 
 more-stops : (t : Entry) (w : ReaderWalk) (f : Fault) → more t w ≡ stops f → w ≡ stops f
 more-stops t (stops g) f q = q

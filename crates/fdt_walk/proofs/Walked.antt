@@ -23,7 +23,7 @@ use Rattle.fdt_walk.specs.declared.Refusal.the-variants.{Unreadable, Dep
 use Rattle.fdt_walk.specs.declared.Token.{Token}
 use Rattle.fdt_walk.specs.declared.Token.the-variants as token
 use Rattle.fdt_walk.specs.Depth.{mostOpen}
-use Rattle.fdt_walk.specs.ReaderWalk.{ReaderWalk, more, capped, readerSteps, readerWalk}
+use Rattle.fdt_walk.specs.ReaderWalk.{ReaderWalk, capped, readerSteps, readerWalk}
 use Rattle.fdt_walk.specs.Token.{follow, Goes, Takes}
 
 -- ---- the first token

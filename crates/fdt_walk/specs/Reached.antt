@@ -9,6 +9,7 @@ use Rattle.fdt_format.specs.declared.Step.the-variants as step
 use Rattle.fdt_format.specs.declared.Unreadable.the-variants.{Structure, NameOffset}
 use Rattle.fdt_format.specs.Step.{stepAt}
 use Rattle.fdt_format.specs.Walk.{walkStart}
+use Rattle.fdt_walk.specs.declared.Fault.{Fault}
 use Rattle.fdt_walk.specs.declared.Refusal.{Refusal}
 use Rattle.fdt_walk.specs.declared.Refusal.the-variants.{Unreadable, Depth}
 use Rattle.fdt_walk.specs.Depth.{mostOpen}
@@ -23,3 +24,10 @@ pub data Wrong (b : List ℕ) (a : Areas) (s : State) : Refusal → Type 0 where
   structure : stepAt b a s ≡ step.Bad Structure → Wrong b a s (Unreadable Structure)
   name-offset : stepAt b a s ≡ step.Bad NameOffset → Wrong b a s (Unreadable NameOffset)
   depth : {t : Entry} {s' : State} → stepAt b a s ≡ step.Entry t s' → mostOpen < s' .depth → Wrong b a s Depth
+
+-- a fault is met: a state is reached whose token is wrong, and the fault's place is that state's
+pub record Meets (b : List ℕ) (a : Areas) (f : Fault) : Type 0 where
+  pub state : State
+  pub reached : Reached b a state
+  pub wrong : Wrong b a state (f .refusal)
+  pub place : f .place ≡ state .at
