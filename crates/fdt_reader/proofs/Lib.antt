@@ -1,3 +1,4 @@
+pub mod Examples
 pub mod Exactly
 pub mod Header
 pub mod Outcomes

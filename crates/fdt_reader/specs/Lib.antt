@@ -1,3 +1,4 @@
+pub mod Examples
 pub mod Numbers
 pub mod Pass
 pub mod Reader

@@ -1,0 +1,95 @@
+-- Examples of request 1/14 (document 02), one table: blobs made by hand, and what the reader says of each. A blob with two faults
+-- shows which one wins.
+use mathlib.Core.List.{List, [], _∷_, _++_}
+use mathlib.Core.Option.{Option, none, some}
+use Prim.Native.Nat.{ℕ, zero, suc, _+_, _-_}
+use lib.ListN.{set, take, replicate}
+use Rattle.fdt_format.specs.Foreign.{altered, only, stringA, nested, ninetyTwo, tails}
+use Rattle.fdt_reader.specs.declared.Surveyed.{Surveyed}
+use Rattle.fdt_reader.specs.declared.Surveyed.the-variants.{Whole, Refused}
+use Rattle.fdt_reader.specs.Reader.{numberOf, Values, noValues, valuesOf, surveyOf, answerOf, listAfter}
+
+-- what is said of a blob and a list: the number and the values of the answer, the list afterwards, and the place of the first fault
+pub record Said : Type 0 where
+  pub number : ℕ
+  pub values : Values
+  pub list : List ℕ
+  pub fault : Option ℕ
+
+-- a blob, a list, and what document 02 says of them
+pub data Example : Type 0 where
+  example : List ℕ → List ℕ → Said → Example
+
+-- the place of a survey's fault
+unfoldable pub placeOf : Surveyed → Option ℕ
+placeOf (Whole a reservations entries) = none
+placeOf (Refused fault) = some (fault .place)
+
+-- what the reader and the survey say
+unfoldable pub given : Example → Said
+given (example b list said) =
+    record { number = numberOf (answerOf b list); values = valuesOf (answerOf b list); list = listAfter b list; fault = placeOf (surveyOf b) }
+
+-- what document 02 says
+unfoldable pub expected : Example → Said
+expected (example b list said) = said
+
+-- accepted: the values, and the list afterwards
+unfoldable pub accepts : List ℕ → List ℕ → Values → List ℕ → Example
+accepts b list values after = example b list (record { number = 0; values = values; list = after; fault = none })
+
+-- the list is too short
+unfoldable pub short : List ℕ → List ℕ → Example
+short b list = example b list (record { number = 30; values = noValues; list = list; fault = none })
+
+-- refused: the number, and the place of the fault
+unfoldable pub refuses : List ℕ → List ℕ → ℕ → ℕ → Example
+refuses b list number place = example b list (record { number = number; values = noValues; list = list; fault = some place })
+
+-- a list of n numbers
+unfoldable pub room : ℕ → List ℕ
+room n = replicate n 77
+
+-- the entries of document 01's blob of 92 bytes
+unfoldable pub three : List ℕ
+three = 1 ∷ 56 ∷ 60 ∷ 0 ∷ 3 ∷ 64 ∷ 88 ∷ 4 ∷ 2 ∷ 80 ∷ 0 ∷ 0 ∷ []
+
+-- the entries of n nodes with empty names, each inside the one before, by the places where the first begins and ends
+unfoldable pub nestedEntries : ℕ → ℕ → ℕ → List ℕ
+nestedEntries zero begin end = []
+nestedEntries (suc n) begin end = 1 ∷ begin ∷ (begin + 4) ∷ 0 ∷ (nestedEntries n (begin + 8) (end - 4) ++ (2 ∷ end ∷ 0 ∷ 0 ∷ []))
+
+-- the table
+unfoldable pub examples : List Example
+examples =
+    -- three entries: room for three, for three and three numbers more, and one number too few
+    accepts ninetyTwo (room 12) (record { boot = 0; reservations = 0; entries = 3 }) three
+    ∷ accepts ninetyTwo (room 15) (record { boot = 0; reservations = 0; entries = 3 }) (three ++ room 3)
+    ∷ short ninetyTwo (room 11)
+    -- boot number 3, two reservations, nine entries; names are tails of one entry of the strings
+    ∷ accepts tails (room 36) (record { boot = 3; reservations = 2; entries = 9 })
+    (1 ∷ 100 ∷ 104 ∷ 0
+    ∷ 3 ∷ 108 ∷ 88 ∷ 1
+    ∷ 3 ∷ 124 ∷ 89 ∷ 4
+    ∷ 1 ∷ 140 ∷ 144 ∷ 0
+    ∷ 3 ∷ 148 ∷ 94 ∷ 0
+    ∷ 2 ∷ 160 ∷ 0 ∷ 0
+    ∷ 1 ∷ 164 ∷ 168 ∷ 0
+    ∷ 2 ∷ 172 ∷ 0 ∷ 0
+    ∷ 2 ∷ 176 ∷ 0 ∷ 0
+    ∷ [])
+    -- a bad header and endless reservations; endless reservations and a bad structure
+    ∷ refuses (set (altered 13 1) 0 0) (room 4) 21 0
+    ∷ refuses (set (altered 13 1) 59 8) (room 4) 22 40
+    -- a property whose value ends outside and whose name offset is bad; one behind an end, with a bad offset
+    ∷ refuses (only (1 ∷ 0 ∷ 3 ∷ 100 ∷ 4 ∷ 2 ∷ 9 ∷ []) stringA) (room 12) 23 64
+    ∷ refuses (only (1 ∷ 0 ∷ 1 ∷ 0 ∷ 2 ∷ 3 ∷ 0 ∷ 4 ∷ 2 ∷ 9 ∷ []) stringA) (room 20) 23 76
+    -- a bad name offset, and disorder later
+    ∷ refuses (only (1 ∷ 0 ∷ 3 ∷ 0 ∷ 4 ∷ 9 ∷ []) stringA) (room 12) 24 64
+    -- disorder and a short list
+    ∷ refuses (only (1 ∷ 0 ∷ 9 ∷ []) []) (room 3) 23 64
+    -- 64 nodes open; 65; a 65th whose name ends outside
+    ∷ accepts (only (nested 64 (9 ∷ [])) []) (room 512) (record { boot = 0; reservations = 0; entries = 128 }) (nestedEntries 64 56 820)
+    ∷ refuses (only (nested 65 (9 ∷ [])) []) (room 520) 25 568
+    ∷ refuses (only (take 128 (nested 64 []) ++ (1 ∷ 0x61616161 ∷ [])) []) (room 520) 23 568
+    ∷ []
