@@ -44,6 +44,13 @@ pub record Onward (b : List ℕ) (a : Areas) (list : List ℕ) (c : Cursor) (lis
   pub placed : Placed a c'
   pub depth : c' .state .depth ≡ c .state .depth
 
+-- an entry is taken at the cursor, and the state after it is s
+pub record Entered (b : List ℕ) (a : Areas) (list₀ : List ℕ) (c₀ : Cursor) (list : List ℕ) (c : Cursor) (t : Entry) (s : State) : Type 0 where
+  pub turn : Onward b a list₀ c₀ list c
+  pub next : Next b a (c .state) t s
+  pub same : resultFrom b a list₀ c₀ ≡ resultFrom b a (put list (c .count) t) (after s (c .count))
+  pub placed : Placed a (after s (c .count))
+
 module _ (b : List ℕ) (a : Areas) where
   -- at first the cursor is where it was
   pub onward-none : (c : Cursor) (list : List ℕ) → Placed a c → Onward b a list c list c
@@ -62,62 +69,65 @@ module _ (b : List ℕ) (a : Areas) where
     unfolding resultAt Stops result putAll
     at-final q = record { same = told q; stops = tt }
 
-    module _ {t : Entry} {s : State} (q : x ≡ token.Entry t s) where
-      pub next : Next b a (c .state) t s
-      unfolding Goes
-      next = subst (Goes b a (c .state)) q (k .goes)
+    -- it is an entry
+    pub entered : {t : Entry} {s : State} → x ≡ token.Entry t s → Entered b a list₀ c₀ list c t s
+    unfolding Goes
+    entered {t} {s} q =
+        let n : Next b a (c .state) t s = subst (Goes b a (c .state)) q (k .goes) in
+        record {
+          turn = o;
+          next = n;
+          same = told q ∙ result-more list (c .count) t (readerWalk b a s);
+          placed = record { stands = record { within = n .moved .within; shallow = n .shallow }; few = omega (arith, o .placed .few, n .moved .on) };
+        }
 
-      pub next-stands : Stands a s
-      next-stands = record { within = next .moved .within; shallow = next .shallow }
+  -- an entry was taken at the cursor
+  module _ {c₀ c : Cursor} {list₀ list : List ℕ} {t : Entry} {s : State} (e : Entered b a list₀ c₀ list c t s) where
+    -- less of the structure is to come
+    pub less : a .«structure_end» - s .at < a .«structure_end» - c .state .at
+    less = omega (arith, e .next .moved .on, e .next .moved .within)
 
-      same-on : resultFrom b a list₀ c₀ ≡ resultFrom b a (put list (c .count) t) (after s (c .count))
-      same-on = told q ∙ result-more list (c .count) t (readerWalk b a s)
+    -- it is a property
+    pub after-property : (list' : List ℕ) → list' ≡ put list (c .count) t → (t .token ≡ beginToken → ⊥) → (t .token ≡ endToken → ⊥)
+        → Onward b a list₀ c₀ list' (after s (c .count))
+    after-property list' w m n =
+        rw w
+        record { same = e .same; on = omega (arith, e .turn .on, e .next .moved .on); placed = e .placed; depth = property-stays (e .next .kind) m n ∙ e .turn .depth }
 
-      placed-on : Placed a (after s (c .count))
-      placed-on = record { stands = next-stands; few = omega (arith, o .placed .few, next .moved .on) }
+    -- it is the end of the node
+    pub at-end : (list' : List ℕ) → list' ≡ put list (c .count) t → t .token ≡ endToken → Continues b a list₀ c₀ list' (progress.Ended (after s (c .count)))
+    unfolding resultAt Stops
+    at-end list' w n =
+        rw w
+        record {
+          same = e .same;
+          stops = record { on = omega (arith, e .turn .on, e .next .moved .on); placed = e .placed; depth = end-closes (e .next .kind) n ∙ e .turn .depth };
+        }
 
-      -- it is a property
-      pub after-property : (list' : List ℕ) → list' ≡ put list (c .count) t → (t .token ≡ beginToken → ⊥) → (t .token ≡ endToken → ⊥)
-          → Onward b a list₀ c₀ list' (after s (c .count))
-      after-property list' w m n =
-          rw w
-          record { same = same-on; on = omega (arith, o .on, next .moved .on); placed = placed-on; depth = property-stays (next .kind) m n ∙ o .depth }
+    -- it begins a child: fewer calls can be nested below
+    pub fewer-calls : t .token ≡ beginToken → suc (callsBelow s) < callsBelow (c₀ .state)
+    fewer-calls m = omega (arith, begin-opens (e .next .kind) m, e .turn .depth, e .next .shallow)
 
-      -- it is the end of the node
-      pub at-end : (list' : List ℕ) → list' ≡ put list (c .count) t → t .token ≡ endToken → Continues b a list₀ c₀ list' (progress.Ended (after s (c .count)))
+    -- and the child was read
+    module _ (list' : List ℕ) (d : Cursor) (h : Continues b a (put list (c .count) t) (after s (c .count)) list' (progress.Ended d)) where
+      pub child-ended : t .token ≡ beginToken → Onward b a list₀ c₀ list' d
       unfolding resultAt Stops
-      at-end list' w n =
-          rw w
+      child-ended m =
           record {
-            same = same-on;
-            stops = record { on = omega (arith, o .on, next .moved .on); placed = placed-on; depth = end-closes (next .kind) n ∙ o .depth };
+            same = e .same ∙ h .same;
+            on = omega (arith, e .turn .on, e .next .moved .on, h .stops .on);
+            placed = h .stops .placed;
+            depth = omega (arith, h .stops .depth, begin-opens (e .next .kind) m, e .turn .depth);
           }
 
-      -- it begins a child: fewer calls can be nested below
-      pub fewer-calls : t .token ≡ beginToken → suc (callsBelow s) < callsBelow (c₀ .state)
-      fewer-calls m = omega (arith, begin-opens (next .kind) m, o .depth, next .shallow)
+      pub child-less : a .«structure_end» - d .state .at < a .«structure_end» - c .state .at
+      unfolding Stops
+      child-less = omega (arith, e .next .moved .on, h .stops .on, h .stops .placed .stands .within)
 
-      -- and the child was read
-      module _ (list' : List ℕ) (m : t .token ≡ beginToken) where
-        pub child-ended : (d : Cursor) → Continues b a (put list (c .count) t) (after s (c .count)) list' (progress.Ended d) → Onward b a list₀ c₀ list' d
-        unfolding resultAt Stops
-        child-ended d h =
-            record {
-              same = same-on ∙ h .same;
-              on = omega (arith, o .on, next .moved .on, h .stops .on);
-              placed = h .stops .placed;
-              depth = omega (arith, h .stops .depth, begin-opens (next .kind) m, o .depth);
-            }
-
-        pub child-less : (d : Cursor) → Continues b a (put list (c .count) t) (after s (c .count)) list' (progress.Ended d)
-            → a .«structure_end» - d .state .at < a .«structure_end» - c .state .at
-        unfolding Stops
-        child-less d h = omega (arith, next .moved .on, h .stops .on, h .stops .placed .stands .within)
-
-      -- or the pass stopped in the child
-      pub child-stopped : (list' : List ℕ) (r : Progress) → ((d : Cursor) → r ≡ progress.Ended d → ⊥) → Continues b a (put list (c .count) t) (after s (c .count)) list' r
-          → Continues b a list₀ c₀ list' r
-      unfolding resultAt Stops
-      child-stopped list' (progress.Ended d) n h = absurd (n d refl)
-      child-stopped list' (progress.Complete m) n h = record { same = same-on ∙ h .same; stops = tt }
-      child-stopped list' (progress.Refused fault) n h = record { same = same-on ∙ h .same; stops = tt }
+    -- or the pass stopped in the child
+    pub child-stopped : (list' : List ℕ) (r : Progress) → ((d : Cursor) → r ≡ progress.Ended d → ⊥) → Continues b a (put list (c .count) t) (after s (c .count)) list' r
+        → Continues b a list₀ c₀ list' r
+    unfolding resultAt Stops
+    child-stopped list' (progress.Ended d) n h = absurd (n d refl)
+    child-stopped list' (progress.Complete m) n h = record { same = e .same ∙ h .same; stops = tt }
+    child-stopped list' (progress.Refused fault) n h = record { same = e .same ∙ h .same; stops = tt }
