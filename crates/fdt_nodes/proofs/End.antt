@@ -11,7 +11,8 @@ use Rattle.fdt_record.specs.declared.Record.{Record}
 use Rattle.fdt_record.specs.Answers.{accepts}
 use Rattle.fdt_record.specs.Fields.{withUsedBlob, withDepth, withEnded}
 use Rattle.fdt_record.specs.Tests.{aloneRows, blobRows}
-use Rattle.fdt_record.proofs.Fits.{neither, FitBlob, fit-blob, not-overfull}
+use Rattle.fdt_bytes.proofs.Tests.{neither}
+use Rattle.fdt_record.proofs.Fits.{FitBlob, fit-blob, not-overfull}
 use Rattle.fdt_record.proofs.Rows.{allAnswers, Refusals, ByName, by-name, Exactly, exactly}
 use Rattle.fdt_nodes.specs.End.{endRows, endAnswer, endedRecord}
 

@@ -28,7 +28,7 @@ use Rattle.fdt_format.proofs.Structure.{structure-size}
 use Rattle.fdt_format.proofs.Tokens.{length-final}
 use Rattle.fdt_record.specs.declared.Answer.the-variants.{Done}
 use Rattle.fdt_record.specs.Limits.{blobCeiling, usable}
-use Rattle.fdt_record.proofs.Fits.{neither}
+use Rattle.fdt_bytes.proofs.Tests.{neither}
 use Rattle.fdt_opening.specs.Opening.{count, someInvalid}
 use Rattle.fdt_finish.specs.Finish.{usedStrings, finishedRecord, finishedBlob}
 use Rattle.fdt_finish.specs.Shown.{shown}

@@ -1,6 +1,6 @@
 -- What a survey knows of a header: its areas are inside the blob; and its answer, test by test.
 use mathlib.Core.Path.{_≡_, refl, ap, _∙_}
-use mathlib.Core.Bool.{Bool, true, false, _&&_, and-false, false≢true}
+use mathlib.Core.Bool.{Bool, true, false, _&&_, and-false}
 use mathlib.Core.List.{List}
 use mathlib.Core.Option.{Option, none, some}
 use Prim.Native.Nat.{ℕ, _%_, _≤_, _<_, _^_}
@@ -12,6 +12,7 @@ use lib.Dec.{eqb, leb}
 use lib.ListN.{length, getD}
 use Rattle.fdt_bytes.specs.BigEndian.{wordAt}
 use Rattle.fdt_bytes.proofs.BigEndian.{word-bytes}
+use Rattle.fdt_bytes.proofs.Tests.{both}
 use Rattle.fdt_format.specs.declared.Areas.{Areas}
 use Rattle.fdt_format.specs.declared.Unreadable.{Unreadable as Reason}
 use Rattle.fdt_format.specs.declared.Unreadable.the-variants.{Reservations}
@@ -30,10 +31,6 @@ use Rattle.fdt_walk.proofs.Walked.{walk-trimmed}
 use Rattle.fdt_reader.specs.declared.Surveyed.the-variants as surveyed
 use Rattle.fdt_reader.specs.Pass.{surveyedWalk}
 use Rattle.fdt_reader.specs.Reader.{refusedAt, fromWalk, fromReservations, outcome, surveyedAs, surveyOf}
-
-both : (x y : Bool) → (x && y) ≡ true → (x ≡ true) × (y ≡ true)
-both true y e = (refl, e)
-both false y e = absurd (false≢true e)
 
 -- ---- a good header
 

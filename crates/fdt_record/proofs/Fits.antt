@@ -1,6 +1,6 @@
 -- What follows where a test of misfit 17 fails: the figures are in their bounds.
 use mathlib.Core.Path.{_≡_, refl}
-use mathlib.Core.Bool.{Bool, true, false, not, _&&_, _||_, true≢false}
+use mathlib.Core.Bool.{Bool, true, false, not, _&&_, true≢false}
 use mathlib.Core.List.{List}
 use mathlib.Core.Logic.{_⊎_, inl, inr}
 use Prim.Native.Nat.{ℕ, _-_, _%_, _≤_}
@@ -8,15 +8,11 @@ use native.Mathlib.Omega.{arith}
 use borrow.Author.Tests.{eqb-true, ltb-false, not-false}
 use lib.Dec.{eqb, ltb}
 use lib.ListN.{length, getD}
+use Rattle.fdt_bytes.proofs.Tests.{neither}
 use Rattle.fdt_header.specs.Header.{structureStart}
 use Rattle.fdt_record.specs.declared.Record.{Record}
 use Rattle.fdt_record.specs.Limits.{blobCeiling, stringsCeiling, phandlesCeiling, mostReservations, mostDepth, usable}
 use Rattle.fdt_record.specs.Misfits.{misfitRecord, misfitRoom, offStructure, misfitBlob, misfitStrings, misfitPhandles, overfull}
-
--- neither of two tests
-pub neither : (a b : Bool) → (a || b) ≡ false → (a ≡ false) × (b ≡ false)
-neither true b e = absurd (true≢false e)
-neither false b e = (refl, e)
 
 -- the usable length is within both
 pub usable-within : (ceiling lent : ℕ) → (usable ceiling lent ≤ lent) × (usable ceiling lent ≤ ceiling)

@@ -4,6 +4,7 @@ use mathlib.Core.Bool.{Bool, true, false, not, cond, _&&_, true≢false}
 use mathlib.Core.List.{List, [], _∷_, _++_}
 use mathlib.Core.Logic.{_↔_}
 use borrow.Author.Tests.{not-true}
+use Rattle.fdt_bytes.proofs.Tests.{both}
 use Rattle.fdt_record.specs.declared.Answer.{Answer}
 use Rattle.fdt_record.specs.declared.Answer.the-variants.{Done, Misfit}
 use Rattle.fdt_record.specs.Answers.{accepts, upon}
@@ -44,10 +45,6 @@ by-name ((b ⇒ a) ∷ rows) n f = by-name rows (n .1) (f (n .0))
 unfoldable pub allAnswers : (Answer → Bool) → List Row → Bool
 allAnswers p [] = true
 allAnswers p ((b ⇒ a) ∷ rows) = p a && allAnswers p rows
-
-both : (a b : Bool) → (a && b) ≡ true → (a ≡ true) × (b ≡ true)
-both true b e = (refl, e)
-both false b e = absurd (true≢false (sym e))
 
 -- then it holds of the answer, if it holds of acceptance
 pub first-answers : (p : Answer → Bool) (rows : List Row) → p Done ≡ true → allAnswers p rows ≡ true → p (first rows) ≡ true
