@@ -15,11 +15,12 @@ use Rattle.fdt_format.specs.declared.Step.the-variants as step
 use Rattle.fdt_format.specs.declared.Unreadable.{Unreadable}
 use Rattle.fdt_format.specs.Description.{Property, Nodes, Reservation, Description}
 use Rattle.fdt_format.specs.Events.{Event, begins, has, ends, events, nodesOf}
+use Rattle.fdt_format.specs.Moves.{Kind, opens, adds, closes}
 use Rattle.fdt_format.specs.Reading.{areasOf, goodHeader, eventAt, walkNodes, described, readReservations, readNodes, reading}
 use Rattle.fdt_format.specs.Step.{stepAt}
 use Rattle.fdt_format.specs.Walk.{Walk, bad, good, more, follow, steps, walk, walkStart}
 use Rattle.fdt_format.proofs.Nodes.{Accepted, described-by, nodes-exactly}
-use Rattle.fdt_format.proofs.Steps.{Kind, opens, adds, closes, Stepped, step-stepped}
+use Rattle.fdt_format.proofs.Steps.{Stepped, step-stepped}
 
 -- ---- one more token in front
 

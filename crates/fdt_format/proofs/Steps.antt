@@ -17,8 +17,9 @@ use Rattle.fdt_format.specs.declared.State.{State}
 use Rattle.fdt_format.specs.declared.Step.{Step}
 use Rattle.fdt_format.specs.declared.Step.the-variants as step
 use Rattle.fdt_format.specs.declared.Unreadable.the-variants.{Structure, NameOffset}
-use Rattle.fdt_format.specs.Description.{Property, _≔_}
+use Rattle.fdt_format.specs.Description.{_≔_}
 use Rattle.fdt_format.specs.Events.{begins, has, ends}
+use Rattle.fdt_format.specs.Moves.{Moved, Kind, opens, adds, closes}
 use Rattle.fdt_format.specs.Reading.{nameAt, eventAt}
 use Rattle.fdt_format.specs.Step.{zeroFrom, wholeAt, sizeAt, beginAt, propertyAt, endAt, finalAt, stepAt}
 use Rattle.fdt_format.specs.Tokens.{beginToken, endToken, propertyToken, propertySize, finalToken}
@@ -111,18 +112,7 @@ module _ (b : List ℕ) (t : Entry) where
 
 -- ---- how a token moves the state
 
--- the place moves on, and stays inside the structure
-pub record Moved (a : Areas) (s s' : State) : Type 0 where
-  pub on : s .at < s' .at
-  pub within : s' .at ≤ a .«structure_end»
-
--- an entry begins a node, is a property where one may come, or ends a node
-pub data Kind (b : List ℕ) (s : State) (t : Entry) (s' : State) : Type 0 where
-  opens : (name : List ℕ) → eventAt b t ≡ begins name → s' .depth ≡ suc (s .depth) → s' .«takes_property» ≡ true → Kind b s t s'
-  adds : (p : Property) → eventAt b t ≡ has p → s' .depth ≡ s .depth → s .«takes_property» ≡ true → s' .«takes_property» ≡ true → Kind b s t s'
-  closes : eventAt b t ≡ ends → suc (s' .depth) ≡ s .depth → s' .«takes_property» ≡ false → Kind b s t s'
-
--- an entry does both; the final word comes where no node is open; a token is refused only for its structure or its name offset
+-- an entry moves the place on, and begins a node, is a property or ends a node; the final word comes where no node is open; a token is refused only for its structure or its name offset
 unfoldable pub Stepped : List ℕ → Areas → State → Step → Type 0
 Stepped b a s (step.Entry t s') = Moved a s s' × Kind b s t s'
 Stepped b a s step.Final = s .depth ≡ 0

@@ -7,9 +7,10 @@ use Rattle.fdt_format.specs.declared.Areas.{Areas}
 use Rattle.fdt_format.specs.declared.State.{State}
 use Rattle.fdt_format.specs.declared.Step.{Step}
 use Rattle.fdt_format.specs.declared.Step.the-variants as step
+use Rattle.fdt_format.specs.Moves.{Moved}
 use Rattle.fdt_format.specs.Step.{stepAt}
 use Rattle.fdt_format.specs.Walk.{Walk, more, follow, steps, walk}
-use Rattle.fdt_format.proofs.Steps.{Moved, Stepped, step-stepped}
+use Rattle.fdt_format.proofs.Steps.{Stepped, step-stepped}
 
 -- ---- any walk, whatever it tells
 

@@ -2,6 +2,7 @@ pub mod Blob
 pub mod Description
 pub mod Events
 pub mod Foreign
+pub mod Moves
 pub mod Reading
 pub mod Refusals
 pub mod Step

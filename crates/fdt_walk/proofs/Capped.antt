@@ -14,10 +14,11 @@ use Rattle.fdt_format.specs.declared.Step.the-variants as step
 use Rattle.fdt_format.specs.declared.Unreadable.{Unreadable}
 use Rattle.fdt_format.specs.Description.{Property, Nodes, no-more, node}
 use Rattle.fdt_format.specs.Events.{Event, begins, has, ends, propertyEvents, events}
+use Rattle.fdt_format.specs.Moves.{Kind, opens, adds, closes}
 use Rattle.fdt_format.specs.Reading.{eventAt}
 use Rattle.fdt_format.specs.Step.{stepAt}
 use Rattle.fdt_format.specs.Walk.{Walk, bad, good, more as goodMore, follow, steps, walk, walkStart}
-use Rattle.fdt_format.proofs.Steps.{by-test, Kind, opens, adds, closes, Stepped, step-stepped}
+use Rattle.fdt_format.proofs.Steps.{by-test, Stepped, step-stepped}
 use Rattle.fdt_walk.specs.declared.Fault.{Fault}
 use Rattle.fdt_walk.specs.declared.Refusal.the-variants.{Depth}
 use Rattle.fdt_walk.specs.Depth.{mostOpen, AtMost}

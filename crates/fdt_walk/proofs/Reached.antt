@@ -13,9 +13,10 @@ use Rattle.fdt_format.specs.declared.Step.{Step}
 use Rattle.fdt_format.specs.declared.Step.the-variants as step
 use Rattle.fdt_format.specs.declared.Unreadable.{Unreadable as Reason}
 use Rattle.fdt_format.specs.declared.Unreadable.the-variants.{Structure, NameOffset}
+use Rattle.fdt_format.specs.Moves.{Moved}
 use Rattle.fdt_format.specs.Step.{stepAt}
 use Rattle.fdt_format.specs.Walk.{walkStart}
-use Rattle.fdt_format.proofs.Steps.{by-test, Moved, Stepped, step-stepped}
+use Rattle.fdt_format.proofs.Steps.{by-test, Stepped, step-stepped}
 use Rattle.fdt_walk.specs.declared.Fault.{Fault}
 use Rattle.fdt_walk.specs.declared.Refusal.{Refusal}
 use Rattle.fdt_walk.specs.declared.Refusal.the-variants.{Unreadable}

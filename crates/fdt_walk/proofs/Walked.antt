@@ -12,10 +12,11 @@ use Rattle.fdt_format.specs.declared.State.{State}
 use Rattle.fdt_format.specs.declared.Step.{Step}
 use Rattle.fdt_format.specs.declared.Step.the-variants as step
 use Rattle.fdt_format.specs.declared.Unreadable.{Unreadable as Reason}
+use Rattle.fdt_format.specs.Moves.{Moved, Kind, opens, adds, closes}
 use Rattle.fdt_format.specs.Reading.{eventAt}
 use Rattle.fdt_format.specs.Step.{stepAt}
 use Rattle.fdt_format.specs.Tokens.{beginToken, endToken}
-use Rattle.fdt_format.proofs.Steps.{by-test, event-begins, event-ends, Moved, Kind, opens, adds, closes, Stepped, step-stepped}
+use Rattle.fdt_format.proofs.Steps.{by-test, event-begins, event-ends, Stepped, step-stepped}
 use Rattle.fdt_format.proofs.Walks.{first-step}
 use Rattle.fdt_read_token.specs.Trimmed.{trimmed}
 use Rattle.fdt_read_token.proofs.Trimmed.{step-trimmed}

@@ -6,7 +6,7 @@ use Prim.Native.Nat.{ℕ, _≤_}
 use Rattle.fdt_format.specs.declared.Areas.{Areas}
 use Rattle.fdt_format.specs.declared.Entry.{Entry}
 use Rattle.fdt_format.specs.declared.State.{State}
-use Rattle.fdt_format.proofs.Steps.{Moved, Kind}
+use Rattle.fdt_format.specs.Moves.{Moved, Kind}
 use Rattle.fdt_walk.specs.declared.Token.{Token}
 use Rattle.fdt_walk.specs.declared.Token.the-variants as token
 use Rattle.fdt_walk.specs.Depth.{mostOpen}
