@@ -116,12 +116,6 @@ module _ {b : List ℕ} {s s' : State} {t : Entry} where
 
 -- ---- with the strings cut
 
-capped-all : (place : ℕ) (x : Step) (g h : State → ReaderWalk) → ((s : State) → g s ≡ h s) → capped place x g ≡ capped place x h
-unfolding capped
-capped-all place (step.Entry t s) g h same = rw (same s)
-capped-all place step.Final g h same = refl
-capped-all place (step.Bad reason) g h same = refl
-
 -- the walk is the same
 pub walk-trimmed : (b : List ℕ) (a : Areas) → a .strings ≤ a .«strings_end» → (s : State) → readerWalk b (trimmed b a) s ≡ readerWalk b a s
 unfolding readerWalk readerSteps trimmed
@@ -129,4 +123,4 @@ walk-trimmed b a o s = go (suc (a .«structure_end» - s .at)) s
   where
     go : (k : ℕ) (s : State) → readerSteps b (trimmed b a) k s ≡ readerSteps b a k s
     go zero s = refl
-    go (suc k) s = rw (step-trimmed b a o s) (capped-all (s .at) (stepAt b a s) _ _ (go k))
+    go (suc k) s = rw (step-trimmed b a o s) (capped-same b a s (stepAt b a s) (step-stepped b a s) _ _ (λ s' _. go k s'))
