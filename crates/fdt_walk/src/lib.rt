@@ -23,7 +23,8 @@ pub enum Refusal {
     Depth,
 }
 
-// The first fault of a blob: why it is refused, and the place of what is refused.
+// The first fault of a blob: why it is refused, and where: 0 for the header, the offset of the reservations, or the place of the
+// token.
 pub struct Fault {
     pub refusal: Refusal,
     pub place: usize,
@@ -47,7 +48,8 @@ pub fn number(refusal: Refusal) -> u32
     }
 }
 
-// Takes the token at a state. All that it promises is how the walk goes on from there.
+// Takes the token at a state. It promises how the walk goes on, that the place moves on and what kind of entry it is, not which
+// token it is.
 pub fn token_at(blob: &[u8], a: Areas, s: State) -> Token
     requires { ⌜ Trimmed (now blob) a × Stands a s ⌝ }
     ensures { λ r. ⌜ Takes (now (blob .entry)) a s r ⌝ }
