@@ -13,19 +13,19 @@ use Rattle.fdt_format.specs.declared.Entry.{Entry}
 use Rattle.fdt_format.specs.declared.Unreadable.the-variants.{Reservations, Structure, NameOffset}
 use Rattle.fdt_format.specs.Description.{Description}
 use Rattle.fdt_format.specs.Events.{events}
-use Rattle.fdt_format.specs.Reading.{areasOf, eventAt, reading as readingOf}
+use Rattle.fdt_format.specs.Reading.{areasOf, eventAt, reading}
 use Rattle.fdt_format.specs.Walk.{walkStart}
 use Rattle.fdt_format.proofs.Nested.{Parts, reading-is, read-exactly}
 use Rattle.fdt_walk.specs.declared.Refusal.{Refusal}
 use Rattle.fdt_walk.specs.declared.Refusal.the-variants as refusal
-use Rattle.fdt_walk.specs.Depth.{mostOpen, AtMost}
+use Rattle.fdt_walk.specs.Depth.{mostOpen, NestedAtMost}
 use Rattle.fdt_walk.specs.Refusals.{numberOf as refusalNumber}
 use Rattle.fdt_walk.specs.ReaderWalk.{reads, readerWalk}
 use Rattle.fdt_walk.proofs.Capped.{Shallow, shallow-nodes, reads-exactly, deep-stops}
-use Rattle.fdt_reader.specs.declared.Reading.{Reading}
-use Rattle.fdt_reader.specs.declared.Reading.the-variants as reading
+use Rattle.fdt_reader.specs.declared.ReadAnswer.{ReadAnswer}
+use Rattle.fdt_reader.specs.declared.ReadAnswer.the-variants as answer
 use Rattle.fdt_reader.specs.declared.Surveyed.{Surveyed}
-use Rattle.fdt_reader.specs.Numbers.{Opens, Describes, Numbered, first-fault, short-list, done, Surveys, refuses, whole, Tells}
+use Rattle.fdt_reader.specs.Numbers.{GoodFront, Describes, Numbered, first-fault, short-list, done, Surveys, refuses, readable, Tells}
 use Rattle.fdt_reader.specs.Reader.{numberOf, noValues, valuesOf, Outcome, refused, accepted, fromWalk, outcome, surveyedAs, surveyOf, answeredAs, answerOf, filled, listAs, listAfter, Read}
 use Rattle.fdt_reader.proofs.Outcomes.{Way, faulty, all-read, way, from-walk, fault-refused}
 
@@ -41,7 +41,7 @@ refusal-numbered refusal.Depth q = omega arith
 
 module _ (b : List ℕ) where
   -- a walk that the reader takes to its end describes something
-  walk-describes : (o : Opens b) (ts : List Entry) → readerWalk b (areasOf b) (walkStart (areasOf b)) ≡ reads ts → (d : Description) × Describes b d
+  walk-describes : (o : GoodFront b) (ts : List Entry) → readerWalk b (areasOf b) (walkStart (areasOf b)) ≡ reads ts → (d : Description) × Describes b d
   walk-describes o ts w =
       let g = reads-exactly b (areasOf b) ts .0 w in
       let x = read-exactly b (o .found) ts (o .header) (o .reservations) (g .0) in
@@ -52,7 +52,7 @@ module _ (b : List ℕ) where
     parts : Parts b d
     parts = reading-is b d .0 (h .read)
 
-    abbrev opens : Opens b
+    abbrev opens : GoodFront b
     opens = record { header = parts .header; found = d .reservations; reservations = parts .reservations }
 
     described-read : outcome b ≡ accepted (d .reservations) (parts .entries)
@@ -66,14 +66,14 @@ module _ (b : List ℕ) where
 
     -- the answer then depends on the room of the list alone
     module _ (list : List ℕ) where
-      described-short : length list / 4 < length (events (d .nodes) []) → answerOf b list ≡ reading.ShortList
+      described-short : length list / 4 < length (events (d .nodes) []) → answerOf b list ≡ answer.ShortList
       unfolding answerOf answeredAs
       described-short less =
           let l : length list / 4 < length (parts .entries) = omega (arith, described-count) in
           rw (described-read, lt-ltb _ _ l)
 
       described-done : length (events (d .nodes) []) ≤ length list / 4
-          → (answerOf b list ≡ reading.Done (d .boot) (length (d .reservations)) (length (events (d .nodes) []))) × (listAfter b list ≡ filled list (parts .entries))
+          → (answerOf b list ≡ answer.Done (d .boot) (length (d .reservations)) (length (events (d .nodes) []))) × (listAfter b list ≡ filled list (parts .entries))
       unfolding answerOf answeredAs listAfter listAs
       described-done room =
           let l : length (parts .entries) ≤ length list / 4 = omega (arith, described-count) in
@@ -88,12 +88,12 @@ by-cases Case fixes holds y = (λ q. subst Case (sym (fixes (holds .0) (holds .1
 module _ (b : List ℕ) where
   by-survey : {o : Outcome} → Way b o → (s : Surveyed) × Surveys b s
   by-survey (faulty f) = (_, refuses f)
-  by-survey (all-read o {ts} w) = (_, whole (walk-describes b o ts w .1))
+  by-survey (all-read o {ts} w) = (_, readable (walk-describes b o ts w .1))
 
   surveys : {s : Surveyed} → Surveys b s → surveyOf b ≡ s
   unfolding surveyOf surveyedAs
   surveys (refuses f) = rw (fault-refused b f)
-  surveys (whole h) = rw (described-read b h, described-count b h)
+  surveys (readable h) = rw (described-read b h, described-count b h)
 
   -- a survey answers s exactly if its case holds
   pub survey-exactly : (s : Surveyed) → (surveyOf b ≡ s) ↔ Surveys b s
@@ -137,11 +137,11 @@ module _ (b list : List ℕ) where
   accepted-exactly = (λ q. accepts (number-exactly 0 .0 q) refl, λ x. accepted-tells (x .0) (x .1) (x .2) .number)
 
   -- what is read as a description nested deeper is refused for depth
-  pub deep-refused : (d : Description) → readingOf b ≡ some d → (AtMost mostOpen (d .nodes) → ⊥) → numberOf (answerOf b list) ≡ 25
+  pub deep-refused : (d : Description) → reading b ≡ some d → (NestedAtMost mostOpen (d .nodes) → ⊥) → numberOf (answerOf b list) ≡ 25
   unfolding answerOf answeredAs numberOf fromWalk
   deep-refused d read n =
       let p : Parts b d = reading-is b d .0 read in
-      let o : Opens b = record { header = p .header; found = d .reservations; reservations = p .reservations } in
+      let o : GoodFront b = record { header = p .header; found = d .reservations; reservations = p .reservations } in
       let s = deep-stops b (areasOf b) (p .entries) (p .walked) (λ x. n (shallow-nodes mostOpen (d .nodes) .0 (subst (Shallow mostOpen) (sym (p .nodes)) x))) in
       rw (from-walk b o, s .1)
 
@@ -156,17 +156,17 @@ refused-unaltered b list h = go (outcome b) h
     go (refused fault) h = refl
     go (accepted rs ts) h = tested (ltb (length list / 4) (length ts)) h
       where
-        tested : (t : Bool) → (numberOf (cond t reading.ShortList (reading.Done (areasOf b .boot) (length rs) (length ts))) ≡ 0 → ⊥) → cond t list (filled list ts) ≡ list
+        tested : (t : Bool) → (numberOf (cond t answer.ShortList (answer.Done (areasOf b .boot) (length rs) (length ts))) ≡ 0 → ⊥) → cond t list (filled list ts) ≡ list
         tested true h = refl
         tested false h = absurd (h refl)
 
 -- and has no values
-pub refused-valueless : (r : Reading) → (numberOf r ≡ 0 → ⊥) → valuesOf r ≡ noValues
+pub refused-valueless : (r : ReadAnswer) → (numberOf r ≡ 0 → ⊥) → valuesOf r ≡ noValues
 unfolding numberOf valuesOf
-refused-valueless (reading.Done boot pairs entries) h = absurd (h refl)
-refused-valueless (reading.Refused refusal) h = refl
-refused-valueless reading.ShortList h = refl
+refused-valueless (answer.Done boot pairs entries) h = absurd (h refl)
+refused-valueless (answer.Refused refusal) h = refl
+refused-valueless answer.ShortList h = refl
 
 -- two calls with the same blob and list have the same answer, and leave the same list
-pub one-outcome : {b before after after' : List ℕ} {r r' : Reading} → Read b before after r → Read b before after' r' → (r ≡ r') × (after ≡ after')
+pub one-outcome : {b before after after' : List ℕ} {r r' : ReadAnswer} → Read b before after r → Read b before after' r' → (r ≡ r') × (after ≡ after')
 one-outcome p q = (p .answer ∙ sym (q .answer), p .list ∙ sym (q .list))

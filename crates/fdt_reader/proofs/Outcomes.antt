@@ -13,7 +13,7 @@ use Rattle.fdt_walk.specs.declared.Fault.{Fault}
 use Rattle.fdt_walk.specs.declared.Refusal.the-variants.{Header}
 use Rattle.fdt_walk.specs.ReaderWalk.{ReaderWalk, stops, reads, readerWalk}
 use Rattle.fdt_walk.proofs.Reached.{stops-exactly}
-use Rattle.fdt_reader.specs.Numbers.{Opens, FirstFault, header, reservations, token}
+use Rattle.fdt_reader.specs.Numbers.{GoodFront, FirstFault, header, reservations, token}
 use Rattle.fdt_reader.specs.Reader.{Outcome, refused, accepted, refusedAt, fromWalk, fromReservations, outcome}
 
 module _ (b : List ℕ) where
@@ -23,9 +23,9 @@ module _ (b : List ℕ) where
   -- the blob has a fault, or all of it is read
   pub data Way : Outcome → Type 0 where
     faulty : {f : Fault} → FirstFault b f → Way (refused f)
-    all-read : (o : Opens b) {ts : List Entry} → readerWalk b areas (walkStart areas) ≡ reads ts → Way (accepted (o .found) ts)
+    all-read : (o : GoodFront b) {ts : List Entry} → readerWalk b areas (walkStart areas) ≡ reads ts → Way (accepted (o .found) ts)
 
-  by-walk : (o : Opens b) (w : ReaderWalk) → readerWalk b areas (walkStart areas) ≡ w → Way (fromWalk (o .found) w)
+  by-walk : (o : GoodFront b) (w : ReaderWalk) → readerWalk b areas (walkStart areas) ≡ w → Way (fromWalk (o .found) w)
   unfolding fromWalk
   by-walk o (stops f) w = faulty (token o (stops-exactly b areas f .0 w))
   by-walk o (reads ts) w = all-read o w
@@ -45,7 +45,7 @@ module _ (b : List ℕ) where
   way = by-header (goodHeader b) refl
 
   -- and the other way round
-  pub from-walk : (o : Opens b) → outcome b ≡ fromWalk (o .found) (readerWalk b areas (walkStart areas))
+  pub from-walk : (o : GoodFront b) → outcome b ≡ fromWalk (o .found) (readerWalk b areas (walkStart areas))
   unfolding outcome fromReservations
   from-walk o = rw (o .header, o .reservations)
 

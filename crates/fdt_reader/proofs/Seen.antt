@@ -15,9 +15,9 @@ use Rattle.fdt_read_token.specs.Trimmed.{trimmed, Trimmed}
 use Rattle.fdt_walk.specs.declared.Fault.{Fault}
 use Rattle.fdt_walk.specs.ReaderWalk.{reads, readerWalk}
 use Rattle.fdt_reader.specs.declared.Progress.{Progress}
-use Rattle.fdt_reader.specs.declared.Reading.the-variants as reading
+use Rattle.fdt_reader.specs.declared.ReadAnswer.the-variants as answer
 use Rattle.fdt_reader.specs.declared.Surveyed.the-variants as surveyed
-use Rattle.fdt_reader.specs.Numbers.{Opens}
+use Rattle.fdt_reader.specs.Numbers.{GoodFront}
 use Rattle.fdt_reader.specs.Pass.{Placed, Continues, first}
 use Rattle.fdt_reader.specs.Reader.{Outcome, refused, accepted, outcome, surveyedAs, surveyOf, answeredAs, answerOf, listAs, listAfter, Read}
 use Rattle.fdt_reader.proofs.Header.{cut-ready, start-trimmed}
@@ -27,23 +27,23 @@ use Rattle.fdt_reader.proofs.Whole.{first-placed, fills-list}
 -- the areas and counts of a survey, with the reservations and entries that were counted
 pub record Seen (b : List ℕ) (a : Areas) (reservations entries : ℕ) : Type 0 where
   pub areas : a ≡ trimmed b (areasOf b)
-  pub opens : Opens b
+  pub front : GoodFront b
   pub read : List Entry
   pub walked : readerWalk b (areasOf b) (walkStart (areasOf b)) ≡ reads read
-  pub outcome-is : outcome b ≡ accepted (opens .found) read
-  pub reservations-is : reservations ≡ length (opens .found)
+  pub outcome-is : outcome b ≡ accepted (front .found) read
+  pub reservations-is : reservations ≡ length (front .found)
   pub entries-is : entries ≡ length read
 
 module _ (b : List ℕ) where
-  see : {o : Outcome} → Way b o → o ≡ outcome b → (a : Areas) (n m : ℕ) → surveyed.Whole a n m ≡ surveyedAs (trimmed b (areasOf b)) o → Seen b a n m
+  see : {o : Outcome} → Way b o → o ≡ outcome b → (a : Areas) (n m : ℕ) → surveyed.Readable a n m ≡ surveyedAs (trimmed b (areasOf b)) o → Seen b a n m
   unfolding surveyedAs
   see (faulty f) e a n m q = absurd (let z : _≡_ {A = ℕ} 0 1 = cc in omega arith)
   see (all-read o {ts} w) e a n m q =
-      record { areas = cc; opens = o; read = ts; walked = w; outcome-is = sym e; reservations-is = cc; entries-is = cc }
+      record { areas = cc; front = o; read = ts; walked = w; outcome-is = sym e; reservations-is = cc; entries-is = cc }
 
-  pub seen-whole : {a : Areas} {n m : ℕ} → surveyed.Whole a n m ≡ surveyOf b → Seen b a n m
+  pub seen-readable : {a : Areas} {n m : ℕ} → surveyed.Readable a n m ≡ surveyOf b → Seen b a n m
   unfolding surveyOf
-  seen-whole q = see (way b) refl _ _ _ q
+  seen-readable q = see (way b) refl _ _ _ q
 
   refused-is : (o : Outcome) (fault : Fault) → surveyed.Refused fault ≡ surveyedAs (trimmed b (areasOf b)) o → o ≡ refused fault
   unfolding surveyedAs
@@ -57,24 +57,24 @@ module _ (b : List ℕ) where
 
     -- a pass may begin
     pub seen-ready : ((i : ℕ) → Fits w8 (getD b i 0)) → Trimmed b a × Placed a (first a)
-    seen-ready bytes = let r = cut-ready b (s .opens .header) bytes refl (s .areas) in (r .0, first-placed (r .1))
+    seen-ready bytes = let r = cut-ready b (s .front .header) bytes refl (s .areas) in (r .0, first-placed (r .1))
 
   module _ (list : List ℕ) where
     -- the first fault is answered
-    pub reads-refused : {fault : Fault} → surveyed.Refused fault ≡ surveyOf b → Read b list list (reading.Refused (fault .refusal))
+    pub reads-refused : {fault : Fault} → surveyed.Refused fault ≡ surveyOf b → Read b list list (answer.Refused (fault .refusal))
     unfolding surveyOf answerOf answeredAs listAfter listAs
     reads-refused {fault} q = let e = refused-is (outcome b) fault q in record { answer = rw e; list = rw e }
 
     module _ {a : Areas} {n m : ℕ} (s : Seen b a n m) where
       -- the list has too little room
-      pub reads-short : length list / 4 < m → Read b list list reading.ShortList
+      pub reads-short : length list / 4 < m → Read b list list answer.ShortList
       unfolding answerOf answeredAs listAfter listAs
       reads-short h =
           let less : length list / 4 < length (s .read) = omega (arith, s .entries-is) in
           record { answer = rw (s .outcome-is, lt-ltb _ _ less); list = rw (s .outcome-is, lt-ltb _ _ less) }
 
       -- the list has room, and a pass filled it
-      pub reads-done : {list' : List ℕ} (r : Progress) → m ≤ length list / 4 → Continues b a list (first a) list' r → Read b list list' (reading.Done (a .boot) n m)
+      pub reads-done : {list' : List ℕ} (r : Progress) → m ≤ length list / 4 → Continues b a list (first a) list' r → Read b list list' (answer.Done (a .boot) n m)
       unfolding answerOf answeredAs listAfter listAs trimmed
       reads-done r h pass =
           let room : length (s .read) ≤ length list / 4 = omega (arith, s .entries-is) in

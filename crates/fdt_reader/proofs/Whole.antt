@@ -15,7 +15,7 @@ use Rattle.fdt_reader.specs.declared.Progress.{Progress}
 use Rattle.fdt_reader.specs.declared.Progress.the-variants as progress
 use Rattle.fdt_reader.specs.declared.Surveyed.the-variants as surveyed
 use Rattle.fdt_reader.specs.Pass.{put, faulty, complete, putAll, result, resultAt, Placed, Stops, Continues, first, surveyedWalk}
-use Rattle.fdt_reader.specs.Reader.{numbersOf, filled}
+use Rattle.fdt_reader.specs.Reader.{listed, filled}
 
 -- where a pass begins
 pub first-placed : {a : Areas} → a .structure ≤ a .«structure_end» → Placed a (first a)
@@ -37,13 +37,13 @@ counts (t ∷ ts) n =
     rw (le-ltb n (0 / 4) (omega arith)) (counts ts (n + 1) ∙ ap (λ (k : ℕ). complete k []) e)
 
 module _ (a : Areas) (reservations : ℕ) where
-  walk-counted : (n : ℕ) (list' : List ℕ) (w : ReaderWalk) → result [] 0 w ≡ complete n list' → surveyed.Whole a reservations n ≡ surveyedWalk a reservations w
+  walk-counted : (n : ℕ) (list' : List ℕ) (w : ReaderWalk) → result [] 0 w ≡ complete n list' → surveyed.Readable a reservations n ≡ surveyedWalk a reservations w
   unfolding result surveyedWalk
   walk-counted n list' (stops fault) q = absurd (let z : _≡_ {A = ℕ} 0 1 = cc in omega arith)
   walk-counted n list' (reads ts) q =
       let k : n ≡ 0 + length ts = cc (counts ts 0) in
       let e : n ≡ length ts = omega arith in
-      ap (surveyed.Whole a reservations) e
+      ap (surveyed.Readable a reservations) e
 
   walk-refused : (fault : Fault) (w : ReaderWalk) → result [] 0 w ≡ faulty fault → surveyed.Refused fault ≡ surveyedWalk a reservations w
   unfolding result surveyedWalk
@@ -52,7 +52,7 @@ module _ (a : Areas) (reservations : ℕ) where
 
   -- what a pass without room answers is what a survey answers
   module _ {b : List ℕ} {list' : List ℕ} where
-    pub survey-complete : {n : ℕ} → Continues b a [] (first a) list' (progress.Complete n) → surveyed.Whole a reservations n ≡ surveyedWalk a reservations (readerWalk b a (walkStart a))
+    pub survey-complete : {n : ℕ} → Continues b a [] (first a) list' (progress.Complete n) → surveyed.Readable a reservations n ≡ surveyedWalk a reservations (readerWalk b a (walkStart a))
     unfolding resultAt
     survey-complete h = walk-counted _ list' (readerWalk b a (walkStart a)) (h .same)
 
@@ -86,7 +86,7 @@ put-in pre r a b c d n t h =
 
 -- entries fill a list that has room for them
 fills : (ts : List Entry) (pre list : List ℕ) (n : ℕ) → length pre ≡ n * 4 → length ts * 4 ≤ length list → putAll (pre ++ list) n ts ≡ complete (n + length ts) (pre ++ filled list ts)
-unfolding putAll filled numbersOf four
+unfolding putAll filled listed four
 fills [] pre list n h le = let z : n ≡ n + 0 = omega arith in ap (λ (k : ℕ). complete k (pre ++ list)) z
 fills (t ∷ ts) pre [] n h le = absurd (omega arith)
 fills (t ∷ ts) pre (a ∷ []) n h le = absurd (omega arith)

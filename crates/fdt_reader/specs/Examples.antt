@@ -6,7 +6,7 @@ use Prim.Native.Nat.{ℕ, zero, suc, _+_, _-_}
 use lib.ListN.{set, take, replicate}
 use Rattle.fdt_format.specs.Foreign.{altered, only, stringA, nested, ninetyTwo, tails}
 use Rattle.fdt_reader.specs.declared.Surveyed.{Surveyed}
-use Rattle.fdt_reader.specs.declared.Surveyed.the-variants.{Whole, Refused}
+use Rattle.fdt_reader.specs.declared.Surveyed.the-variants.{Readable, Refused}
 use Rattle.fdt_reader.specs.Reader.{numberOf, Values, noValues, valuesOf, surveyOf, answerOf, listAfter}
 
 -- what is said of a blob and a list: the number and the values of the answer, the list afterwards, and the place of the first fault
@@ -22,7 +22,7 @@ pub data Example : Type 0 where
 
 -- the place of a survey's fault
 unfoldable pub placeOf : Surveyed → Option ℕ
-placeOf (Whole a reservations entries) = none
+placeOf (Readable a reservations entries) = none
 placeOf (Refused fault) = some (fault .place)
 
 -- what the reader and the survey say

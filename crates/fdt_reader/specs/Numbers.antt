@@ -14,15 +14,15 @@ use Rattle.fdt_format.specs.Reading.{areasOf, goodHeader, eventAt, readReservat
 use Rattle.fdt_read_token.specs.Trimmed.{trimmed}
 use Rattle.fdt_walk.specs.declared.Fault.{Fault}
 use Rattle.fdt_walk.specs.declared.Refusal.the-variants.{Header, Unreadable}
-use Rattle.fdt_walk.specs.Depth.{mostOpen, AtMost}
+use Rattle.fdt_walk.specs.Depth.{mostOpen, NestedAtMost}
 use Rattle.fdt_walk.specs.Reached.{Meets}
 use Rattle.fdt_walk.specs.Refusals.{numberOf as refusalNumber}
 use Rattle.fdt_reader.specs.declared.Surveyed.{Surveyed}
-use Rattle.fdt_reader.specs.declared.Surveyed.the-variants.{Whole, Refused}
+use Rattle.fdt_reader.specs.declared.Surveyed.the-variants.{Readable, Refused}
 use Rattle.fdt_reader.specs.Reader.{numberOf, valuesOf, answerOf, filled, listAfter}
 
 -- the header is good, and an all-zero pair ends the reservations inside the blob
-pub record Opens (b : List ℕ) : Type 0 where
+pub record GoodFront (b : List ℕ) : Type 0 where
   pub header : goodHeader b ≡ true
   pub found : List Reservation
   pub reservations : readReservations b (areasOf b) ≡ some found
@@ -30,7 +30,7 @@ pub record Opens (b : List ℕ) : Type 0 where
 -- a blob is read as a description whose nodes are nested at most 64 deep
 pub record Describes (b : List ℕ) (d : Description) : Type 0 where
   pub read : reading b ≡ some d
-  pub shallow : AtMost mostOpen (d .nodes)
+  pub shallow : NestedAtMost mostOpen (d .nodes)
 
 -- the first fault of a blob, and its place
 pub data FirstFault (b : List ℕ) : Fault → Type 0 where
@@ -40,7 +40,7 @@ pub data FirstFault (b : List ℕ) : Fault → Type 0 where
   reservations : goodHeader b ≡ true → readReservations b (areasOf b) ≡ none
       → FirstFault b (record { refusal = Unreadable Reservations; place = areasOf b .reservations })
   -- both are, and the token at a state that is reached is wrong: structure, name offset or depth
-  token : {f : Fault} → Opens b → Meets b (areasOf b) f → FirstFault b f
+  token : {f : Fault} → GoodFront b → Meets b (areasOf b) f → FirstFault b f
 
 -- the number of the reader's answer
 pub data Numbered (b list : List ℕ) : ℕ → Type 0 where
@@ -56,7 +56,7 @@ pub data Surveys (b : List ℕ) : Surveyed → Type 0 where
   -- the blob has a fault
   refuses : {f : Fault} → FirstFault b f → Surveys b (Refused f)
   -- all is good: its areas, with the strings cut, and how many reservations and entries it has
-  whole : {d : Description} → Describes b d → Surveys b (Whole (trimmed b (areasOf b)) (length (d .reservations)) (length (events (d .nodes) [])))
+  readable : {d : Description} → Describes b d → Surveys b (Readable (trimmed b (areasOf b)) (length (d .reservations)) (length (events (d .nodes) [])))
 
 -- what an accepted call tells of a description: the boot number and the counts are its own, and the entries at the front of the
 -- list are those of its events, each with its place, the place of its name and the length of its value

@@ -85,7 +85,7 @@ first a = record { state = walkStart a; count = 0 }
 -- what a survey answers, by the count of reservations and the walk
 unfoldable pub surveyedWalk : Areas → ℕ → ReaderWalk → Surveyed
 surveyedWalk a n (stops fault) = surveyed.Refused fault
-surveyedWalk a n (reads ts) = surveyed.Whole a n (length ts)
+surveyedWalk a n (reads ts) = surveyed.Readable a n (length ts)
 
 -- how many calls of `node` and `children` can be nested below one at a state
 abbrev pub callsBelow : State → ℕ

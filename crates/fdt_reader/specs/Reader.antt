@@ -18,18 +18,18 @@ use Rattle.fdt_walk.specs.declared.Refusal.{Refusal}
 use Rattle.fdt_walk.specs.declared.Refusal.the-variants.{Header, Unreadable}
 use Rattle.fdt_walk.specs.Refusals.{numberOf as refusalNumber}
 use Rattle.fdt_walk.specs.ReaderWalk.{ReaderWalk, stops, reads, readerWalk}
-use Rattle.fdt_reader.specs.declared.Reading.{Reading}
-use Rattle.fdt_reader.specs.declared.Reading.the-variants as reading
+use Rattle.fdt_reader.specs.declared.ReadAnswer.{ReadAnswer}
+use Rattle.fdt_reader.specs.declared.ReadAnswer.the-variants as answer
 use Rattle.fdt_reader.specs.declared.Surveyed.{Surveyed}
 use Rattle.fdt_reader.specs.declared.Surveyed.the-variants as surveyed
 
 -- ---- the answer as numbers
 
 -- the number of an answer
-unfoldable pub numberOf : Reading → ℕ
-numberOf (reading.Done boot reservations entries) = 0
-numberOf (reading.Refused refusal) = refusalNumber refusal
-numberOf reading.ShortList = 30
+unfoldable pub numberOf : ReadAnswer → ℕ
+numberOf (answer.Done boot reservations entries) = 0
+numberOf (answer.Refused refusal) = refusalNumber refusal
+numberOf answer.ShortList = 30
 
 -- the values of an answer: the boot number, and how many reservations and entries there are
 pub record Values : Type 0 where
@@ -42,10 +42,10 @@ unfoldable pub noValues : Values
 noValues = record { boot = 0; reservations = 0; entries = 0 }
 
 -- all 0 if refused
-unfoldable pub valuesOf : Reading → Values
-valuesOf (reading.Done boot reservations entries) = record { boot = boot; reservations = reservations; entries = entries }
-valuesOf (reading.Refused refusal) = noValues
-valuesOf reading.ShortList = noValues
+unfoldable pub valuesOf : ReadAnswer → Values
+valuesOf (answer.Done boot reservations entries) = record { boot = boot; reservations = reservations; entries = entries }
+valuesOf (answer.Refused refusal) = noValues
+valuesOf answer.ShortList = noValues
 
 -- ---- what is found in a blob
 
@@ -77,29 +77,29 @@ outcome b = cond (goodHeader b) (fromReservations b (areasOf b) (readReservation
 -- the areas that a survey returns, and the counts
 unfoldable pub surveyedAs : Areas → Outcome → Surveyed
 surveyedAs a (refused fault) = surveyed.Refused fault
-surveyedAs a (accepted rs ts) = surveyed.Whole a (length rs) (length ts)
+surveyedAs a (accepted rs ts) = surveyed.Readable a (length rs) (length ts)
 
 -- what a survey answers of a blob
 unfoldable pub surveyOf : List ℕ → Surveyed
 surveyOf b = surveyedAs (trimmed b (areasOf b)) (outcome b)
 
 -- the reader's answer, by the boot number and the length of the list: last, whether four numbers for each entry have room
-unfoldable pub answeredAs : ℕ → ℕ → Outcome → Reading
-answeredAs boot room (refused fault) = reading.Refused (fault .refusal)
-answeredAs boot room (accepted rs ts) = cond (ltb (room / 4) (length ts)) reading.ShortList (reading.Done boot (length rs) (length ts))
+unfoldable pub answeredAs : ℕ → ℕ → Outcome → ReadAnswer
+answeredAs boot room (refused fault) = answer.Refused (fault .refusal)
+answeredAs boot room (accepted rs ts) = cond (ltb (room / 4) (length ts)) answer.ShortList (answer.Done boot (length rs) (length ts))
 
 -- the reader's answer of a blob, with a list
-unfoldable pub answerOf : List ℕ → List ℕ → Reading
+unfoldable pub answerOf : List ℕ → List ℕ → ReadAnswer
 answerOf b list = answeredAs (areasOf b .boot) (length list) (outcome b)
 
 -- entries as numbers, four for each
-unfoldable pub numbersOf : List Entry → List ℕ
-numbersOf [] = []
-numbersOf (t ∷ ts) = t .token ∷ t .place ∷ t .name ∷ t .size ∷ numbersOf ts
+unfoldable pub listed : List Entry → List ℕ
+listed [] = []
+listed (t ∷ ts) = t .token ∷ t .place ∷ t .name ∷ t .size ∷ listed ts
 
 -- a list with entries at its front; numbers after them stay
 unfoldable pub filled : List ℕ → List Entry → List ℕ
-filled list ts = numbersOf ts ++ drop (length ts * 4) list
+filled list ts = listed ts ++ drop (length ts * 4) list
 
 -- the list afterwards; a refusal writes nothing
 unfoldable pub listAs : List ℕ → Outcome → List ℕ
@@ -111,6 +111,6 @@ unfoldable pub listAfter : List ℕ → List ℕ → List ℕ
 listAfter b list = listAs list (outcome b)
 
 -- a call of the reader: its answer, and the list after it
-pub record Read (b before after : List ℕ) (r : Reading) : Type 0 where
+pub record Read (b before after : List ℕ) (r : ReadAnswer) : Type 0 where
   pub answer : r ≡ answerOf b before
   pub list : after ≡ listAfter b before

@@ -34,12 +34,12 @@ enum Progress {
 // What is known of a blob without its entries: its areas, with the strings cut after their last 0, and how many reservations
 // and entries it has; or its first fault.
 pub enum Surveyed {
-    Whole(Areas, usize, usize),
+    Readable(Areas, usize, usize),
     Refused(Fault),
 }
 
 // The answer of the reader.
-pub enum Reading {
+pub enum ReadAnswer {
     // 0: the boot number, and how many reservations and entries there are.
     Done(u32, usize, usize),
     // 21 to 25: the first fault.
@@ -132,10 +132,10 @@ fn survey_structure(blob: &[u8], a: Areas, reservations: usize) -> Surveyed
     let mut none: [u32; 1] = [0; 1];
     let pass = children(blob, a, first(a), &mut none[..0]);
     match pass {
-        Progress::Complete(n) => Surveyed::Whole(a, reservations, n),
+        Progress::Complete(n) => Surveyed::Readable(a, reservations, n),
         Progress::Refused(fault) => Surveyed::Refused(fault),
         // no node is open, so none ends
-        Progress::Ended(_) => Surveyed::Whole(a, reservations, 0),
+        Progress::Ended(_) => Surveyed::Readable(a, reservations, 0),
     }
 }
 
@@ -167,21 +167,21 @@ pub fn survey(blob: &[u8]) -> Surveyed
 }
 
 // Reads a blob into a list, four numbers for each entry: its token, its place, the place of its name and the length of its value.
-pub fn read(blob: &[u8], list: &mut [u32]) -> Reading
+pub fn read(blob: &[u8], list: &mut [u32]) -> ReadAnswer
     ensures { λ r. ⌜ Read (now (blob .entry)) (now (list .entry)) (now (list .exit)) r ⌝ }
 {
     let seen = survey(blob);
     match seen {
         Surveyed::Refused(fault) => {
             let refusal = fault.refusal;
-            Reading::Refused(refusal)
+            ReadAnswer::Refused(refusal)
         }
-        Surveyed::Whole(a, reservations, entries) => {
+        Surveyed::Readable(a, reservations, entries) => {
             if list.len() / 4 < entries {
-                return Reading::ShortList;
+                return ReadAnswer::ShortList;
             }
             children(blob, a, first(a), list);
-            Reading::Done(a.boot, reservations, entries)
+            ReadAnswer::Done(a.boot, reservations, entries)
         }
     }
 }

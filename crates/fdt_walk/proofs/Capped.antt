@@ -21,7 +21,7 @@ use Rattle.fdt_format.specs.Walk.{Walk, bad, good, more as goodMore, follow, st
 use Rattle.fdt_format.proofs.Steps.{by-test, Stepped, step-stepped}
 use Rattle.fdt_walk.specs.declared.Fault.{Fault}
 use Rattle.fdt_walk.specs.declared.Refusal.the-variants.{Depth}
-use Rattle.fdt_walk.specs.Depth.{mostOpen, AtMost}
+use Rattle.fdt_walk.specs.Depth.{mostOpen, NestedAtMost}
 use Rattle.fdt_walk.specs.ReaderWalk.{ReaderWalk, stops, reads, more, refusedAt, capped, readerSteps, readerWalk}
 
 -- ---- events that open at most k nodes at once
@@ -39,8 +39,8 @@ properties-shallow k [] es = (λ h. h, λ h. h)
 properties-shallow k (p ∷ ps) es = properties-shallow k ps es
 
 -- the events of nodes do so exactly if the nodes are nested at most k deep
-nodes-shallow : (k : ℕ) (f : Nodes) (es : List Event) → Shallow k (events f es) ↔ (AtMost k f × Shallow k es)
-unfolding Shallow events AtMost
+nodes-shallow : (k : ℕ) (f : Nodes) (es : List Event) → Shallow k (events f es) ↔ (NestedAtMost k f × Shallow k es)
+unfolding Shallow events NestedAtMost
 nodes-shallow k no-more es = (λ h. (tt, h), λ h. h .1)
 nodes-shallow zero (node name ps children later) es = (λ h. absurd h, λ h. absurd (h .0))
 nodes-shallow (suc k) (node name ps children later) es =
@@ -51,7 +51,7 @@ nodes-shallow (suc k) (node name ps children later) es =
       λ h. p .1 (c .1 (h .0 .0, l .1 (h .0 .1, h .1))),
     )
 
-pub shallow-nodes : (k : ℕ) (f : Nodes) → Shallow k (events f []) ↔ AtMost k f
+pub shallow-nodes : (k : ℕ) (f : Nodes) → Shallow k (events f []) ↔ NestedAtMost k f
 unfolding Shallow
 shallow-nodes k f = (λ h. nodes-shallow k f [] .0 h .0, λ h. nodes-shallow k f [] .1 (h, tt))
 

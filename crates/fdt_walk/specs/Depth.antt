@@ -7,7 +7,7 @@ abbrev pub mostOpen : ℕ
 mostOpen = 64
 
 -- nodes are nested at most k deep
-unfoldable pub AtMost : ℕ → Nodes → Type 0
-AtMost k no-more = Unit {0}
-AtMost zero (node name properties children later) = ⊥
-AtMost (suc k) (node name properties children later) = AtMost k children × AtMost (suc k) later
+unfoldable pub NestedAtMost : ℕ → Nodes → Type 0
+NestedAtMost k no-more = Unit {0}
+NestedAtMost zero (node name properties children later) = ⊥
+NestedAtMost (suc k) (node name properties children later) = NestedAtMost k children × NestedAtMost (suc k) later
