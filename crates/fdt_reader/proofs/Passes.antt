@@ -1,7 +1,7 @@
 -- Laws of a pass: a token takes its part of what is still to come.
 use mathlib.Core.Path.{_≡_, refl, ap, subst, _∙_}
 use mathlib.Core.List.{List}
-use Prim.Native.Nat.{ℕ, suc, _+_, _-_, _≤_, _<_, _^_}
+use Prim.Native.Nat.{ℕ, suc, _+_, _-_, _*_, _≤_, _<_, _^_}
 use native.Mathlib.Omega.{arith}
 use Rattle.fdt_format.specs.declared.Areas.{Areas}
 use Rattle.fdt_format.specs.declared.Entry.{Entry}
@@ -12,15 +12,21 @@ use Rattle.fdt_read_token.specs.Trimmed.{Trimmed}
 use Rattle.fdt_walk.specs.declared.Fault.{Fault}
 use Rattle.fdt_walk.specs.declared.Token.{Token}
 use Rattle.fdt_walk.specs.declared.Token.the-variants as token
+use Rattle.fdt_walk.specs.Depth.{mostOpen}
 use Rattle.fdt_walk.specs.ReaderWalk.{ReaderWalk, stops, reads, more, readerWalk}
 use Rattle.fdt_walk.specs.Token.{Stands, follow, Next, Goes, Takes}
 use Rattle.fdt_walk.proofs.Walked.{begin-opens, end-closes, property-stays}
 use Rattle.fdt_reader.specs.declared.Cursor.{Cursor}
 use Rattle.fdt_reader.specs.declared.Progress.{Progress}
 use Rattle.fdt_reader.specs.declared.Progress.the-variants as progress
-use Rattle.fdt_reader.specs.Pass.{put, putAll, result, resultFrom, resultAt, Placed, after, Stops, Continues, callsBelow}
+use Rattle.fdt_reader.specs.Pass.{put, putAll, result, resultFrom, resultAt, Placed, after, Stops, Continues}
 
--- at most 128 calls of `node` and `children` are nested below the first: each call has fewer below it than the one around it
+-- the measure of a call of `children` at a state: how many calls of `node` and `children` can be nested below it
+abbrev pub callsBelow : State → ℕ
+callsBelow s = 2 * (mostOpen - s .depth)
+
+-- the first call's measure: 128 calls can be nested below it, because each call has a smaller measure than the one around it
+-- (`fewer-calls`)
 pub calls-bounded : (a : Areas) → callsBelow (walkStart a) ≡ 128
 unfolding walkStart
 calls-bounded a = refl

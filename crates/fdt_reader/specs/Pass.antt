@@ -3,7 +3,7 @@
 use mathlib.Core.Path.{_≡_}
 use mathlib.Core.Bool.{cond}
 use mathlib.Core.List.{List, [], _∷_}
-use Prim.Native.Nat.{ℕ, suc, _+_, _-_, _*_, _/_, _≤_, _<_}
+use Prim.Native.Nat.{ℕ, suc, _+_, _*_, _/_, _≤_, _<_}
 use lib.Dec.{ltb}
 use lib.ListN.{length, set}
 use Rattle.fdt_format.specs.declared.Areas.{Areas}
@@ -11,7 +11,6 @@ use Rattle.fdt_format.specs.declared.Entry.{Entry}
 use Rattle.fdt_format.specs.declared.State.{State}
 use Rattle.fdt_format.specs.Walk.{walkStart}
 use Rattle.fdt_walk.specs.declared.Fault.{Fault}
-use Rattle.fdt_walk.specs.Depth.{mostOpen}
 use Rattle.fdt_walk.specs.ReaderWalk.{ReaderWalk, stops, reads, readerWalk}
 use Rattle.fdt_walk.specs.Token.{Stands}
 use Rattle.fdt_reader.specs.declared.Cursor.{Cursor}
@@ -86,7 +85,3 @@ first a = record { state = walkStart a; count = 0 }
 unfoldable pub surveyedWalk : Areas → ℕ → ReaderWalk → Surveyed
 surveyedWalk a n (stops fault) = surveyed.Refused fault
 surveyedWalk a n (reads ts) = surveyed.Readable a n (length ts)
-
--- how many calls of `node` and `children` can be nested below one at a state
-abbrev pub callsBelow : State → ℕ
-callsBelow s = 2 * (mostOpen - s .depth)

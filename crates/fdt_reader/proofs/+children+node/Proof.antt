@@ -10,8 +10,7 @@ use borrow.Fn.PlainCycle.{Measures, is, falls, and}
 use lib.ListN.{length}
 use types.Run.{miss}
 use Rattle.fdt_walk.proofs.token_at.Reads as token-at-reads
-use Rattle.fdt_reader.specs.Pass.{callsBelow}
-use Rattle.fdt_reader.proofs.Passes.{count-small, place-small, Onward, onward-none, at-fault, at-final, Entered, entered, less, after-property, at-end, fewer-calls, child-ended, child-less, child-stopped}
+use Rattle.fdt_reader.proofs.Passes.{callsBelow, count-small, place-small, Onward, onward-none, at-fault, at-final, Entered, entered, less, after-property, at-end, fewer-calls, child-ended, child-less, child-stopped}
 use Rattle.fdt_reader.proofs.put_entry.Reads as put-entry-reads
 use Rattle.fdt_reader.proofs.children.Reads as children
 use Rattle.fdt_reader.proofs.children.Kinds as children-kinds
