@@ -23,10 +23,10 @@ use Rattle.fdt_reader.proofs.+children+node.Tie.{close}
 
 -- how many calls can be nested below each
 abbrev μ-children : Measures 2 children-kinds.ps ℕ
-μ-children κs x = callsBelow (x .1 .1 .0 .state)
+μ-children κs = λ (blob, (a, (from, others))). callsBelow (from .state)
 
 abbrev μ-node : Measures 2 node-kinds.ps ℕ
-μ-node κs x = suc (callsBelow (x .1 .1 .1 .0))
+μ-node κs = λ (blob, (a, (t, (next, others)))). suc (callsBelow next)
 
 abbrev children-at : ℕ → In 2 children-kinds.ps
 children-at t = and 2 children-kinds.ps (is 2 children-kinds.ps μ-children t) children.Pre
