@@ -6,7 +6,7 @@ use mathlib.Core.List.{List, [], map}
 use mathlib.Core.Option.{some}
 use Prim.Native.Nat.{ℕ, _/_, _≤_, _<_}
 use native.Mathlib.Omega.{arith}
-use borrow.Author.Tests.{ltb-true, ltb-false, lt-ltb, le-ltb}
+use borrow.Author.Tests.{ltb-true, ltb-false}
 use lib.Dec.{ltb}
 use lib.ListN.{length, length-map}
 use Rattle.fdt_format.specs.declared.Entry.{Entry}
@@ -27,7 +27,7 @@ use Rattle.fdt_reader.specs.declared.ReadAnswer.the-variants as answer
 use Rattle.fdt_reader.specs.declared.Surveyed.{Surveyed}
 use Rattle.fdt_reader.specs.Numbers.{GoodFront, Describes, Numbered, first-fault, short-list, done, Surveys, refuses, readable, Tells}
 use Rattle.fdt_reader.specs.Reader.{numberOf, noValues, valuesOf, Outcome, refused, accepted, fromWalk, outcome, surveyedAs, surveyOf, answeredAs, answerOf, filled, listAs, listAfter, Read}
-use Rattle.fdt_reader.proofs.Outcomes.{Way, faulty, all-read, way, from-walk, fault-refused}
+use Rattle.fdt_reader.proofs.Outcomes.{Way, faulty, all-read, way, from-walk, fault-refused, parts-front, accepted-short, accepted-done}
 
 -- the number of a refusal is not 0
 refusal-numbered : (r : Refusal) → refusalNumber r ≡ 0 → ⊥
@@ -52,32 +52,23 @@ module _ (b : List ℕ) where
     parts : Parts b d
     parts = reading-is b d .0 (h .read)
 
-    abbrev opens : GoodFront b
-    opens = record { header = parts .header; found = d .reservations; reservations = parts .reservations }
-
     described-read : outcome b ≡ accepted (d .reservations) (parts .entries)
     unfolding fromWalk
     described-read =
         let s : Shallow mostOpen (map (eventAt b) (parts .entries)) = subst (Shallow mostOpen) (parts .nodes) (shallow-nodes mostOpen (d .nodes) .1 (h .shallow)) in
-        from-walk b opens ∙ rw (reads-exactly b (areasOf b) (parts .entries) .1 (parts .walked, s))
+        from-walk b (parts-front b parts) ∙ rw (reads-exactly b (areasOf b) (parts .entries) .1 (parts .walked, s))
 
     described-count : length (events (d .nodes) []) ≡ length (parts .entries)
     described-count = ap length (parts .nodes) ∙ length-map (parts .entries) (eventAt b)
 
-    -- the answer then depends on the room of the list alone
+    -- what the reader does then depends on the room of the list alone
     module _ (list : List ℕ) where
-      described-short : length list / 4 < length (events (d .nodes) []) → answerOf b list ≡ answer.ShortList
-      unfolding answerOf answeredAs
-      described-short less =
-          let l : length list / 4 < length (parts .entries) = omega (arith, described-count) in
-          rw (described-read, lt-ltb _ _ l)
+      described-short : length list / 4 < length (events (d .nodes) []) → Read b list list answer.ShortList
+      described-short less = accepted-short b list described-read (omega (arith, described-count))
 
       described-done : length (events (d .nodes) []) ≤ length list / 4
-          → (answerOf b list ≡ answer.Done (d .boot) (length (d .reservations)) (length (events (d .nodes) []))) × (listAfter b list ≡ filled list (parts .entries))
-      unfolding answerOf answeredAs listAfter listAs
-      described-done room =
-          let l : length (parts .entries) ≤ length list / 4 = omega (arith, described-count) in
-          (rw (described-read, le-ltb _ _ l, parts .boot, described-count), rw (described-read, le-ltb _ _ l))
+          → Read b list (filled list (parts .entries)) (answer.Done (d .boot) (length (d .reservations)) (length (events (d .nodes) [])))
+      described-done room = rw (parts .boot, ← described-count) at (accepted-done b list described-read (omega (arith, described-count)))
 
 -- ---- each answer exactly when
 
@@ -111,8 +102,8 @@ module _ (b list : List ℕ) where
   numbered : {n : ℕ} → Numbered b list n → numberOf (answerOf b list) ≡ n
   unfolding answerOf answeredAs numberOf
   numbered (first-fault f) = rw (fault-refused b f)
-  numbered (short-list h less) = ap numberOf (described-short b h list less)
-  numbered (done h room) = ap numberOf (described-done b h list room .0)
+  numbered (short-list h less) = ap numberOf (sym (described-short b h list less .answer))
+  numbered (done h room) = ap numberOf (sym (described-done b h list room .answer))
 
   -- the answer's number is n exactly if its case holds
   pub number-exactly : (n : ℕ) → (numberOf (answerOf b list) ≡ n) ↔ Numbered b list n
@@ -130,7 +121,7 @@ module _ (b list : List ℕ) where
   unfolding numberOf valuesOf
   accepted-tells d h room =
       let r = described-done b h list room in
-      record { number = ap numberOf (r .0); values = ap valuesOf (r .0); entries = parts b h .entries; events-are = sym (parts b h .nodes); list = r .1 }
+      record { number = ap numberOf (sym (r .answer)); values = ap valuesOf (sym (r .answer)); entries = parts b h .entries; events-are = sym (parts b h .nodes); list = sym (r .list) }
 
   -- a call is accepted exactly if the blob is read as a description nested at most 64 deep and the list has room
   pub accepted-exactly : (numberOf (answerOf b list) ≡ 0) ↔ ((d : Description) × Describes b d × (length (events (d .nodes) []) ≤ length list / 4))
@@ -141,9 +132,8 @@ module _ (b list : List ℕ) where
   unfolding answerOf answeredAs numberOf fromWalk
   deep-refused d read n =
       let p : Parts b d = reading-is b d .0 read in
-      let o : GoodFront b = record { header = p .header; found = d .reservations; reservations = p .reservations } in
       let s = deep-stops b (areasOf b) (p .entries) (p .walked) (λ x. n (shallow-nodes mostOpen (d .nodes) .0 (subst (Shallow mostOpen) (sym (p .nodes)) x))) in
-      rw (from-walk b o, s .1)
+      rw (from-walk b (parts-front b p), s .1)
 
 -- ---- refusal, and one outcome
 

@@ -3,7 +3,6 @@ use mathlib.Core.Path.{_≡_, refl, sym, ap, _∙_}
 use mathlib.Core.List.{List}
 use Prim.Native.Nat.{ℕ, _/_, _≤_, _<_}
 use native.Mathlib.Omega.{arith}
-use borrow.Author.Tests.{lt-ltb, le-ltb}
 use mir.Syntax.{w8}
 use mir.Val.{Fits}
 use lib.ListN.{length, getD}
@@ -19,9 +18,9 @@ use Rattle.fdt_reader.specs.declared.ReadAnswer.the-variants as answer
 use Rattle.fdt_reader.specs.declared.Surveyed.the-variants as surveyed
 use Rattle.fdt_reader.specs.Numbers.{GoodFront}
 use Rattle.fdt_reader.specs.Pass.{Placed, Continues, first}
-use Rattle.fdt_reader.specs.Reader.{Outcome, refused, accepted, outcome, surveyedAs, surveyOf, answeredAs, answerOf, listAs, listAfter, Read}
+use Rattle.fdt_reader.specs.Reader.{Outcome, refused, accepted, outcome, surveyedAs, surveyOf, Read}
 use Rattle.fdt_reader.proofs.Header.{cut-ready, start-trimmed}
-use Rattle.fdt_reader.proofs.Outcomes.{Way, faulty, all-read, way}
+use Rattle.fdt_reader.proofs.Outcomes.{Way, faulty, all-read, way, refused-read, accepted-short, accepted-done}
 use Rattle.fdt_reader.proofs.Whole.{first-placed, fills-list}
 
 -- the areas and counts of a survey, with the reservations and entries that were counted
@@ -62,23 +61,17 @@ module _ (b : List ℕ) where
   module _ (list : List ℕ) where
     -- the first fault is answered
     pub reads-refused : {fault : Fault} → surveyed.Refused fault ≡ surveyOf b → Read b list list (answer.Refused (fault .refusal))
-    unfolding surveyOf answerOf answeredAs listAfter listAs
-    reads-refused {fault} q = let e = refused-is (outcome b) fault q in record { answer = rw e; list = rw e }
+    unfolding surveyOf
+    reads-refused {fault} q = refused-read b list (refused-is (outcome b) fault q)
 
     module _ {a : Areas} {n m : ℕ} (s : Seen b a n m) where
       -- the list has too little room
       pub reads-short : length list / 4 < m → Read b list list answer.ShortList
-      unfolding answerOf answeredAs listAfter listAs
-      reads-short h =
-          let less : length list / 4 < length (s .read) = omega (arith, s .entries-is) in
-          record { answer = rw (s .outcome-is, lt-ltb _ _ less); list = rw (s .outcome-is, lt-ltb _ _ less) }
+      reads-short h = accepted-short b list (s .outcome-is) (omega (arith, s .entries-is))
 
       -- the list has room, and a pass filled it
       pub reads-done : {list' : List ℕ} (r : Progress) → m ≤ length list / 4 → Continues b a list (first a) list' r → Read b list list' (answer.Done (a .boot) n m)
-      unfolding answerOf answeredAs listAfter listAs trimmed
+      unfolding trimmed
       reads-done r h pass =
           let room : length (s .read) ≤ length list / 4 = omega (arith, s .entries-is) in
-          record {
-            answer = rw (s .outcome-is, le-ltb _ _ room, s .areas, s .reservations-is, s .entries-is);
-            list = rw (s .outcome-is, le-ltb _ _ room) (fills-list list r (s .read) (seen-walk s) room pass);
-          }
+          rw (fills-list list r (s .read) (seen-walk s) room pass, s .areas, s .reservations-is, s .entries-is) (accepted-done b list (s .outcome-is) room)
