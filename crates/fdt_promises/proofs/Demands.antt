@@ -18,6 +18,8 @@ use Rattle.fdt_format.specs.Reading.{reading}
 use Rattle.fdt_format.proofs.Foreign.{foreign-read}
 use Rattle.fdt_format.proofs.ReadBack.{read-blob}
 use Rattle.fdt_format.proofs.Strings.{Distinct, names-once}
+use Rattle.fdt_reader.specs.declared.ReadAnswer.{ReadAnswer}
+use Rattle.fdt_reader.specs.Reader.{Read}
 use Rattle.fdt_record.specs.declared.Answer.{Answer}
 use Rattle.fdt_record.specs.declared.Answer.the-variants.{Done, Misfit}
 use Rattle.fdt_record.specs.Answers.{accepts}
@@ -123,9 +125,10 @@ reading-returns = run-read
 pub reading-of-any : (d : Description) → WellFormed d → reading (blobOf d) ≡ some d
 reading-of-any = read-blob
 
--- The reader reads the shown blob: what it answers, and the entries that it writes to a list, are counted from the opening and the
--- accepted calls. If the list has too little room, it refuses 30 and writes nothing.
-pub finished-is-read : (r : Run) → Finishes r → (before : List ℕ) → ReadBack r before
+-- `read` of fdt_reader states `Read` of its blob, its list before and after, and its answer. It reads the shown blob: what it
+-- answers, and the entries that it writes to a list, are counted from the opening and the accepted calls. If the list has too
+-- little room, it refuses 30 and writes nothing.
+pub finished-is-read : (r : Run) → Finishes r → {before after : List ℕ} {a : ReadAnswer} → Read (blob r) before after a → ReadBack r before after a
 finished-is-read = read-back
 
 -- Demand 3. Two finished runs show the same bytes exactly when they describe the same thing.

@@ -3,25 +3,26 @@ use mathlib.Core.Path.{_≡_, refl, sym, ap, subst, _∙_}
 use mathlib.Core.List.{List, [], _∷_, append-nil, map}
 use Prim.Native.Nat.{ℕ, _+_, _/_, _≤_, _<_}
 use native.Mathlib.Omega.{arith}
-use borrow.Author.Tests.{lt-ltb, le-ltb}
-use lib.ListN.{length, length-map}
+use lib.ListN.{length}
 use Rattle.fdt_header.specs.Header.{structureStart}
 use Rattle.fdt_format.specs.declared.Areas.{Areas}
+use Rattle.fdt_format.specs.declared.Entry.{Entry}
 use Rattle.fdt_format.specs.declared.State.{State}
 use Rattle.fdt_format.specs.Blob.{namesOf, eventsSize, blobFrom, blobOf}
 use Rattle.fdt_format.specs.Description.{_≔_}
 use Rattle.fdt_format.specs.Events.{Event, begins, has, ends, events}
 use Rattle.fdt_format.specs.Reading.{areasOf, eventAt}
 use Rattle.fdt_format.specs.Walk.{good, walkStart}
-use Rattle.fdt_format.proofs.Nested.{Parts, reading-is}
 use Rattle.fdt_format.proofs.Nodes.{accepted-events}
 use Rattle.fdt_format.proofs.ReadBack.{structure-from, strings-from, walk-from}
 use Rattle.fdt_format.proofs.TokensRead.{stateAfter, entryOf, entriesOf}
 use Rattle.fdt_format.proofs.Written.{Walked}
 use Rattle.fdt_walk.specs.Depth.{mostOpen}
-use Rattle.fdt_walk.proofs.Capped.{Shallow, reads-exactly}
-use Rattle.fdt_reader.specs.Reader.{numberOf, valuesOf, accepted, fromWalk, outcome, answeredAs, answerOf, listAs, listAfter}
-use Rattle.fdt_reader.proofs.Outcomes.{from-walk}
+use Rattle.fdt_walk.proofs.Capped.{Shallow, shallow-nodes}
+use Rattle.fdt_reader.specs.declared.ReadAnswer.{ReadAnswer}
+use Rattle.fdt_reader.specs.Numbers.{Describes, short-list}
+use Rattle.fdt_reader.specs.Reader.{numberOf, filled, Read}
+use Rattle.fdt_reader.proofs.Exactly.{number-exactly, accepted-tells, refused-unaltered, refused-valueless}
 use Rattle.fdt_record.specs.Limits.{mostDepth}
 use Rattle.fdt_opening.specs.Opening.{count}
 use Rattle.fdt_promises.specs.Run.{reservationsOf, Run, eventsIn, bootIn, Finishes, blob}
@@ -42,7 +43,7 @@ unfolding entriesOf entriesFrom stateAfter
 entries-from a names [] s = refl
 entries-from a names (e ∷ es) s = rw (entry-at a names s e, entries-from a names es (stateAfter s e))
 
--- ---- the outcome
+-- ---- the blob
 
 -- the writer lets as many nodes be open as the reader does
 same-depth : mostDepth ≡ mostOpen
@@ -54,11 +55,11 @@ record Found (n : ℕ) (es : List Event) (b : List ℕ) : Type 0 where
   strings : areasOf b .strings ≡ structureStart n + eventsSize es + 4
   walked : Walked b (areasOf b) (namesOf es) (walkStart (areasOf b)) es
 
-module _ (r : Run) (f : Finishes r) where
-  -- what a reading finds in the blob
-  parts : Parts (blob r) (toldBy r (run-told r f .nodes))
-  parts = reading-is (blob r) (toldBy r (run-told r f .nodes)) .0 (run-read r f ∙ run-told r f .is)
+-- a walk finds one list of entries
+good-same : {ts us : List Entry} → good ts ≡ good us → ts ≡ us
+good-same q = cc
 
+module _ (r : Run) (f : Finishes r) where
   found : Found (count (r .numbers)) (eventsIn r) (blob r)
   unfolding blobOf
   found =
@@ -86,35 +87,27 @@ module _ (r : Run) (f : Finishes r) where
   unfolding Shallow
   shallow = subst (λ (k : ℕ). Shallow k (eventsIn r)) same-depth (subst (Shallow mostDepth) (append-nil (eventsIn r)) (at-end r f .nests [] tt))
 
-  -- the reader finds the reservations and the entries
-  outcome-is : outcome (blob r) ≡ accepted (reservationsOf (r .numbers)) (entriesIn r)
-  unfolding fromWalk
-  outcome-is =
-      let b = blob r in
-      let w = reads-exactly b (areasOf b) (entriesIn r) .1 (found .walked .walked ∙ ap good entries-are, subst (Shallow mostOpen) (sym events-read) shallow) in
-      from-walk b (record { header = parts .header; found = reservationsOf (r .numbers); reservations = parts .reservations }) ∙ rw w
+  -- so the reader takes the blob as the run's description
+  describes : Describes (blob r) (toldBy r (run-told r f .nodes))
+  describes =
+      let t = run-told r f in
+      record { read = run-read r f ∙ t .is; shallow = shallow-nodes mostOpen (t .nodes) .0 (subst (Shallow mostOpen) (sym (t .events-are)) shallow) }
 
-  -- ---- the answer
+  -- ---- a call of the reader
 
-  entries-count : length (entriesIn r) ≡ length (eventsIn r)
-  entries-count = sym (length-map (entriesIn r) (eventAt (blob r))) ∙ ap length events-read
-
-  module _ (before : List ℕ) where
-    whole-read : length (eventsIn r) ≤ length before / 4 → ReadWhole r before
-    unfolding answerOf answeredAs listAfter listAs numberOf valuesOf
+  module _ {before after : List ℕ} {a : ReadAnswer} (call : Read (blob r) before after a) where
+    whole-read : length (eventsIn r) ≤ length before / 4 → ReadWhole r before after a
     whole-read room =
-        let l : length (entriesIn r) ≤ length before / 4 = omega (arith, entries-count) in
-        record {
-          number = rw (outcome-is, le-ltb _ _ l);
-          values = rw (outcome-is, le-ltb _ _ l, parts .boot, run-count r, entries-count);
-          list = rw (outcome-is, le-ltb _ _ l);
-        }
+        let n = run-told r f .events-are in
+        let t = accepted-tells call _ describes (rw n room) in
+        let same : t .entries ≡ entriesIn r = good-same (sym (t .walked) ∙ found .walked .walked ∙ ap good entries-are) in
+        record { number = t .number; values = t .values ∙ rw (run-count r, n); list = t .list ∙ ap (filled before) same }
 
-    short-refused : length before / 4 < length (eventsIn r) → RefusedShort r before
-    unfolding answerOf answeredAs listAfter listAs numberOf valuesOf
+    short-refused : length before / 4 < length (eventsIn r) → RefusedShort before after a
     short-refused less =
-        let l : length before / 4 < length (entriesIn r) = omega (arith, entries-count) in
-        record { number = rw (outcome-is, lt-ltb _ _ l); values = rw (outcome-is, lt-ltb _ _ l); list = rw (outcome-is, lt-ltb _ _ l) }
+        let e : numberOf a ≡ 30 = number-exactly call 30 .1 (short-list describes (rw (run-told r f .events-are) less)) in
+        let n : numberOf a ≡ 0 → ⊥ = λ z. omega arith in
+        record { number = e; values = refused-valueless a n; list = refused-unaltered call n }
 
-    pub read-back : ReadBack r before
+    pub read-back : ReadBack r before after a
     read-back = record { events-are = events-read; with-room = whole-read; too-short = short-refused }

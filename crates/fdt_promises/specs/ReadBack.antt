@@ -11,7 +11,8 @@ use Rattle.fdt_format.specs.Events.{Event, begins, has, ends}
 use Rattle.fdt_format.specs.Reading.{eventAt}
 use Rattle.fdt_format.specs.Tokens.{beginToken, endToken, propertyToken}
 use Rattle.fdt_opening.specs.Opening.{count}
-use Rattle.fdt_reader.specs.Reader.{numberOf, noValues, valuesOf, answerOf, filled, listAfter}
+use Rattle.fdt_reader.specs.declared.ReadAnswer.{ReadAnswer}
+use Rattle.fdt_reader.specs.Reader.{numberOf, noValues, valuesOf, filled}
 use Rattle.fdt_promises.specs.Run.{Run, eventsIn, bootIn, blob}
 
 -- the entry of an event at a place, if these names are in the strings, which begin at `strings`
@@ -34,21 +35,21 @@ unfoldable pub entriesIn : Run → List Entry
 entriesIn r = entriesFrom (namesOf (eventsIn r)) (stringsIn r) (structureStart (count (r .numbers))) (eventsIn r)
 
 -- the blob is read: the boot number and the counts are the run's own, and its entries are at the front of the list
-pub record ReadWhole (r : Run) (before : List ℕ) : Type 0 where
-  pub number : numberOf (answerOf (blob r) before) ≡ 0
-  pub values : valuesOf (answerOf (blob r) before) ≡ record { boot = bootIn r; reservations = count (r .numbers); entries = length (eventsIn r) }
-  pub list : listAfter (blob r) before ≡ filled before (entriesIn r)
+pub record ReadWhole (r : Run) (before after : List ℕ) (a : ReadAnswer) : Type 0 where
+  pub number : numberOf a ≡ 0
+  pub values : valuesOf a ≡ record { boot = bootIn r; reservations = count (r .numbers); entries = length (eventsIn r) }
+  pub list : after ≡ filled before (entriesIn r)
 
 -- the blob is refused 30: no values, and nothing is written
-pub record RefusedShort (r : Run) (before : List ℕ) : Type 0 where
-  pub number : numberOf (answerOf (blob r) before) ≡ 30
-  pub values : valuesOf (answerOf (blob r) before) ≡ noValues
-  pub list : listAfter (blob r) before ≡ before
+pub record RefusedShort (before after : List ℕ) (a : ReadAnswer) : Type 0 where
+  pub number : numberOf a ≡ 30
+  pub values : valuesOf a ≡ noValues
+  pub list : after ≡ before
 
--- the reader, called with the blob of a run and a list
-pub record ReadBack (r : Run) (before : List ℕ) : Type 0 where
+-- the reader, called with the blob of a run and a list: its answer, and the list after it
+pub record ReadBack (r : Run) (before after : List ℕ) (a : ReadAnswer) : Type 0 where
   -- the run's entries mean the events of its accepted calls
   pub events-are : map (eventAt (blob r)) (entriesIn r) ≡ eventsIn r
   -- four numbers for each have room in the list, or not
-  pub with-room : length (eventsIn r) ≤ length before / 4 → ReadWhole r before
-  pub too-short : length before / 4 < length (eventsIn r) → RefusedShort r before
+  pub with-room : length (eventsIn r) ≤ length before / 4 → ReadWhole r before after a
+  pub too-short : length before / 4 < length (eventsIn r) → RefusedShort before after a

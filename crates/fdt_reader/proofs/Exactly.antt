@@ -1,7 +1,8 @@
--- A survey and the reader answer each answer exactly when; the reader accepts what the reading describes, nested at most 64 deep, and tells just that.
+-- Each answer of a survey and each number of the reader is given exactly when its case holds. The reader accepts exactly what the
+-- reading describes, nested at most 64 deep, and tells just that.
 use mathlib.Core.Logic.{_↔_}
 use mathlib.Core.Path.{_≡_, refl, sym, ap, subst, _∙_}
-use mathlib.Core.Bool.{Bool, true, false, cond}
+use mathlib.Core.Bool.{Bool, true, false}
 use mathlib.Core.List.{List, [], map}
 use mathlib.Core.Option.{some}
 use Prim.Native.Nat.{ℕ, _/_, _≤_, _<_}
@@ -26,8 +27,8 @@ use Rattle.fdt_reader.specs.declared.ReadAnswer.{ReadAnswer}
 use Rattle.fdt_reader.specs.declared.ReadAnswer.the-variants as answer
 use Rattle.fdt_reader.specs.declared.Surveyed.{Surveyed}
 use Rattle.fdt_reader.specs.Numbers.{GoodFront, Describes, Numbered, first-fault, short-list, done, Surveys, refuses, readable, Tells}
-use Rattle.fdt_reader.specs.Reader.{numberOf, noValues, valuesOf, Outcome, refused, accepted, fromWalk, outcome, surveyedAs, surveyOf, answeredAs, answerOf, filled, listAs, listAfter, Read}
-use Rattle.fdt_reader.proofs.Outcomes.{Way, faulty, all-read, way, from-walk, fault-refused, parts-front, accepted-short, accepted-done}
+use Rattle.fdt_reader.specs.Reader.{numberOf, noValues, valuesOf, Outcome, accepted, fromWalk, outcome, surveyedAs, surveyOf, filled, Read}
+use Rattle.fdt_reader.proofs.Outcomes.{Way, faulty, all-read, way, from-walk, fault-refused, parts-front, refused-read, accepted-short, accepted-done}
 
 -- the number of a refusal is not 0
 refusal-numbered : (r : Refusal) → refusalNumber r ≡ 0 → ⊥
@@ -87,8 +88,8 @@ module _ (b : List ℕ) where
   surveys (readable h) = rw (described-read b h, described-count b h)
 
   -- a survey answers s exactly if its case holds
-  pub survey-exactly : (s : Surveyed) → (surveyOf b ≡ s) ↔ Surveys b s
-  survey-exactly = by-cases (Surveys b) (λ _. surveys) (by-survey (way b))
+  pub survey-exactly : {r : Surveyed} → r ≡ surveyOf b → (s : Surveyed) → (r ≡ s) ↔ Surveys b s
+  survey-exactly q = by-cases (Surveys b) (λ _ h. q ∙ surveys h) (by-survey (way b))
 
 module _ (b list : List ℕ) where
   by-room : {d : Description} → Describes b d → (t : Bool) → ltb (length list / 4) (length (events (d .nodes) [])) ≡ t → (n : ℕ) × Numbered b list n
@@ -99,56 +100,59 @@ module _ (b list : List ℕ) where
   by-number (faulty f) = (_, first-fault f)
   by-number (all-read o {ts} w) = by-room (walk-describes b o ts w .1) _ refl
 
-  numbered : {n : ℕ} → Numbered b list n → numberOf (answerOf b list) ≡ n
-  unfolding answerOf answeredAs numberOf
-  numbered (first-fault f) = rw (fault-refused b f)
-  numbered (short-list h less) = ap numberOf (sym (described-short b h list less .answer))
-  numbered (done h room) = ap numberOf (sym (described-done b h list room .answer))
-
-  -- the answer's number is n exactly if its case holds
-  pub number-exactly : (n : ℕ) → (numberOf (answerOf b list) ≡ n) ↔ Numbered b list n
-  number-exactly = by-cases (Numbered b list) (λ _. numbered) (by-number (way b))
-
-  -- ---- acceptance
-
   accepts : {n : ℕ} → Numbered b list n → n ≡ 0 → (d : Description) × Describes b d × (length (events (d .nodes) []) ≤ length list / 4)
   accepts (first-fault {f} h) q = absurd (refusal-numbered (f .refusal) q)
   accepts (short-list h less) q = absurd (omega arith)
   accepts (done {d} h room) q = (d, h, room)
 
-  -- an accepted call tells the description
-  pub accepted-tells : (d : Description) → Describes b d → length (events (d .nodes) []) ≤ length list / 4 → Tells b list d
-  unfolding numberOf valuesOf
-  accepted-tells d h room =
-      let r = described-done b h list room in
-      record { number = ap numberOf (sym (r .answer)); values = ap valuesOf (sym (r .answer)); entries = parts b h .entries; events-are = sym (parts b h .nodes); list = sym (r .list) }
+-- two calls with the same blob and list have the same answer, and leave the same list
+pub one-outcome : {b before after after' : List ℕ} {r r' : ReadAnswer} → Read b before after r → Read b before after' r' → (r ≡ r') × (after ≡ after')
+one-outcome p q = (p .answer ∙ sym (q .answer), p .list ∙ sym (q .list))
+
+-- a call of the reader
+module _ {b before after : List ℕ} {r : ReadAnswer} (call : Read b before after r) where
+  numbered : {n : ℕ} → Numbered b before n → numberOf r ≡ n
+  unfolding numberOf
+  numbered (first-fault f) = ap numberOf (one-outcome call (refused-read b before (fault-refused b f)) .0)
+  numbered (short-list h less) = ap numberOf (one-outcome call (described-short b h before less) .0)
+  numbered (done h room) = ap numberOf (one-outcome call (described-done b h before room) .0)
+
+  -- the answer's number is n exactly if its case holds
+  pub number-exactly : (n : ℕ) → (numberOf r ≡ n) ↔ Numbered b before n
+  number-exactly = by-cases (Numbered b before) (λ _. numbered) (by-number b before (way b))
+
+  -- ---- acceptance
 
   -- a call is accepted exactly if the blob is read as a description nested at most 64 deep and the list has room
-  pub accepted-exactly : (numberOf (answerOf b list) ≡ 0) ↔ ((d : Description) × Describes b d × (length (events (d .nodes) []) ≤ length list / 4))
-  accepted-exactly = (λ q. accepts (number-exactly 0 .0 q) refl, λ x. accepted-tells (x .0) (x .1) (x .2) .number)
+  pub accepted-exactly : (numberOf r ≡ 0) ↔ ((d : Description) × Describes b d × (length (events (d .nodes) []) ≤ length before / 4))
+  accepted-exactly = (λ q. accepts b before (number-exactly 0 .0 q) refl, λ x. numbered (done (x .1) (x .2)))
+
+  -- it then tells the description
+  pub accepted-tells : (d : Description) → Describes b d → length (events (d .nodes) []) ≤ length before / 4 → Tells b before after r d
+  unfolding numberOf valuesOf
+  accepted-tells d h room =
+      let q = one-outcome call (described-done b h before room) in
+      let p = parts b h in
+      record { number = ap numberOf (q .0); values = ap valuesOf (q .0); entries = p .entries; walked = p .walked; events-are = sym (p .nodes); list = q .1 }
+
+  -- ---- refusal
 
   -- what is read as a description nested deeper is refused for depth
-  pub deep-refused : (d : Description) → reading b ≡ some d → (NestedAtMost mostOpen (d .nodes) → ⊥) → numberOf (answerOf b list) ≡ 25
-  unfolding answerOf answeredAs numberOf fromWalk
+  pub deep-refused : (d : Description) → reading b ≡ some d → (NestedAtMost mostOpen (d .nodes) → ⊥) → numberOf r ≡ 25
+  unfolding numberOf fromWalk
   deep-refused d read n =
       let p : Parts b d = reading-is b d .0 read in
       let s = deep-stops b (areasOf b) (p .entries) (p .walked) (λ x. n (shallow-nodes mostOpen (d .nodes) .0 (subst (Shallow mostOpen) (sym (p .nodes)) x))) in
-      rw (from-walk b (parts-front b p), s .1)
+      ap numberOf (one-outcome call (refused-read b before (from-walk b (parts-front b p) ∙ ap (fromWalk (d .reservations)) (s .1))) .0)
 
--- ---- refusal, and one outcome
-
--- a refusal leaves the list as it was
-pub refused-unaltered : (b list : List ℕ) → (numberOf (answerOf b list) ≡ 0 → ⊥) → listAfter b list ≡ list
-unfolding answerOf answeredAs listAfter listAs numberOf
-refused-unaltered b list h = go (outcome b) h
-  where
-    go : (o : Outcome) → (numberOf (answeredAs (areasOf b .boot) (length list) o) ≡ 0 → ⊥) → listAs list o ≡ list
-    go (refused fault) h = refl
-    go (accepted rs ts) h = tested (ltb (length list / 4) (length ts)) h
-      where
-        tested : (t : Bool) → (numberOf (cond t answer.ShortList (answer.Done (areasOf b .boot) (length rs) (length ts))) ≡ 0 → ⊥) → cond t list (filled list ts) ≡ list
-        tested true h = refl
-        tested false h = absurd (h refl)
+  -- a refusal leaves the list as it was
+  pub refused-unaltered : (numberOf r ≡ 0 → ⊥) → after ≡ before
+  refused-unaltered h = by-case (number-exactly _ .0 refl) h
+    where
+      by-case : {n : ℕ} → Numbered b before n → (n ≡ 0 → ⊥) → after ≡ before
+      by-case (first-fault f) h = one-outcome call (refused-read b before (fault-refused b f)) .1
+      by-case (short-list d less) h = one-outcome call (described-short b d before less) .1
+      by-case (done d room) h = absurd (h refl)
 
 -- and has no values
 pub refused-valueless : (r : ReadAnswer) → (numberOf r ≡ 0 → ⊥) → valuesOf r ≡ noValues
@@ -156,7 +160,3 @@ unfolding numberOf valuesOf
 refused-valueless (answer.Done boot pairs entries) h = absurd (h refl)
 refused-valueless (answer.Refused refusal) h = refl
 refused-valueless answer.ShortList h = refl
-
--- two calls with the same blob and list have the same answer, and leave the same list
-pub one-outcome : {b before after after' : List ℕ} {r r' : ReadAnswer} → Read b before after r → Read b before after' r' → (r ≡ r') × (after ≡ after')
-one-outcome p q = (p .answer ∙ sym (q .answer), p .list ∙ sym (q .list))

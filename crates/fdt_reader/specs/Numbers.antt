@@ -11,15 +11,17 @@ use Rattle.fdt_format.specs.declared.Unreadable.the-variants.{Reservations}
 use Rattle.fdt_format.specs.Description.{Reservation, Description}
 use Rattle.fdt_format.specs.Events.{events}
 use Rattle.fdt_format.specs.Reading.{areasOf, goodHeader, eventAt, readReservations, reading}
+use Rattle.fdt_format.specs.Walk.{good, walk, walkStart}
 use Rattle.fdt_read_token.specs.Trimmed.{trimmed}
 use Rattle.fdt_walk.specs.declared.Fault.{Fault}
 use Rattle.fdt_walk.specs.declared.Refusal.the-variants.{Header, Unreadable}
 use Rattle.fdt_walk.specs.Depth.{mostOpen, NestedAtMost}
 use Rattle.fdt_walk.specs.Reached.{Meets}
 use Rattle.fdt_walk.specs.Refusals.{numberOf as refusalNumber}
+use Rattle.fdt_reader.specs.declared.ReadAnswer.{ReadAnswer}
 use Rattle.fdt_reader.specs.declared.Surveyed.{Surveyed}
 use Rattle.fdt_reader.specs.declared.Surveyed.the-variants.{Readable, Refused}
-use Rattle.fdt_reader.specs.Reader.{numberOf, valuesOf, answerOf, filled, listAfter}
+use Rattle.fdt_reader.specs.Reader.{numberOf, valuesOf, filled}
 
 -- the header is good, and an all-zero pair ends the reservations inside the blob
 pub record GoodFront (b : List ℕ) : Type 0 where
@@ -59,10 +61,11 @@ pub data Surveys (b : List ℕ) : Surveyed → Type 0 where
   readable : {d : Description} → Describes b d → Surveys b (Readable (trimmed b (areasOf b)) (length (d .reservations)) (length (events (d .nodes) [])))
 
 -- what an accepted call tells of a description: the boot number and the counts are its own, and the entries at the front of the
--- list are those of its events, each with its place, the place of its name and the length of its value
-pub record Tells (b before : List ℕ) (d : Description) : Type 0 where
-  pub number : numberOf (answerOf b before) ≡ 0
-  pub values : valuesOf (answerOf b before) ≡ record { boot = d .boot; reservations = length (d .reservations); entries = length (events (d .nodes) []) }
+-- list are those that the reading finds, with their places; they mean its events
+pub record Tells (b before after : List ℕ) (r : ReadAnswer) (d : Description) : Type 0 where
+  pub number : numberOf r ≡ 0
+  pub values : valuesOf r ≡ record { boot = d .boot; reservations = length (d .reservations); entries = length (events (d .nodes) []) }
   pub entries : List Entry
+  pub walked : walk b (areasOf b) (walkStart (areasOf b)) ≡ good entries
   pub events-are : map (eventAt b) entries ≡ events (d .nodes) []
-  pub list : listAfter b before ≡ filled before entries
+  pub list : after ≡ filled before entries
