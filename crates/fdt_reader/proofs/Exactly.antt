@@ -27,7 +27,7 @@ use Rattle.fdt_reader.specs.declared.ReadAnswer.{ReadAnswer}
 use Rattle.fdt_reader.specs.declared.ReadAnswer.the-variants as answer
 use Rattle.fdt_reader.specs.declared.Surveyed.{Surveyed}
 use Rattle.fdt_reader.specs.Numbers.{GoodFront, Describes, Numbered, first-fault, short-list, done, Surveys, refuses, readable, Tells}
-use Rattle.fdt_reader.specs.Reader.{numberOf, noValues, valuesOf, Outcome, accepted, fromWalk, outcome, surveyedAs, surveyOf, filled, Read}
+use Rattle.fdt_reader.specs.Reader.{numberOf, surveyNumber, noValues, valuesOf, Outcome, accepted, fromWalk, outcome, surveyedAs, surveyOf, filled, Read}
 use Rattle.fdt_reader.proofs.Outcomes.{Way, faulty, all-read, way, from-walk, fault-refused, parts-front, refused-read, accepted-short, accepted-done}
 
 -- the number of a refusal is not 0
@@ -112,7 +112,6 @@ one-outcome p q = (p .answer ∙ sym (q .answer), p .list ∙ sym (q .list))
 -- a call of the reader
 module _ {b before after : List ℕ} {r : ReadAnswer} (call : Read b before after r) where
   numbered : {n : ℕ} → Numbered b before n → numberOf r ≡ n
-  unfolding numberOf
   numbered (first-fault f) = ap numberOf (one-outcome call (refused-read b before (fault-refused b f)) .0)
   numbered (short-list h less) = ap numberOf (one-outcome call (described-short b h before less) .0)
   numbered (done h room) = ap numberOf (one-outcome call (described-done b h before room) .0)
@@ -120,6 +119,15 @@ module _ {b before after : List ℕ} {r : ReadAnswer} (call : Read b before afte
   -- the answer's number is n exactly if its case holds
   pub number-exactly : (n : ℕ) → (numberOf r ≡ n) ↔ Numbered b before n
   number-exactly = by-cases (Numbered b before) (λ _. numbered) (by-number b before (way b))
+
+  -- it is the number of a survey, unless the list is too short
+  pub same-number : {s : Surveyed} → s ≡ surveyOf b → (numberOf r ≡ 30 → ⊥) → numberOf r ≡ surveyNumber s
+  same-number {s} q h = by-case (number-exactly _ .0 refl) h
+    where
+      by-case : {n : ℕ} → Numbered b before n → (n ≡ 30 → ⊥) → n ≡ surveyNumber s
+      by-case (first-fault f) h = ap surveyNumber (sym (q ∙ surveys b (refuses f)))
+      by-case (short-list d less) h = absurd (h refl)
+      by-case (done d room) h = ap surveyNumber (sym (q ∙ surveys b (readable d)))
 
   -- ---- acceptance
 
@@ -129,7 +137,7 @@ module _ {b before after : List ℕ} {r : ReadAnswer} (call : Read b before afte
 
   -- it then tells the description
   pub accepted-tells : (d : Description) → Describes b d → length (events (d .nodes) []) ≤ length before / 4 → Tells b before after r d
-  unfolding numberOf valuesOf
+  unfolding valuesOf
   accepted-tells d h room =
       let q = one-outcome call (described-done b h before room) in
       let p = parts b h in
@@ -139,7 +147,7 @@ module _ {b before after : List ℕ} {r : ReadAnswer} (call : Read b before afte
 
   -- what is read as a description nested deeper is refused for depth
   pub deep-refused : (d : Description) → reading b ≡ some d → (NestedAtMost mostOpen (d .nodes) → ⊥) → numberOf r ≡ 25
-  unfolding numberOf fromWalk
+  unfolding fromWalk
   deep-refused d read n =
       let p : Parts b d = reading-is b d .0 read in
       let s = deep-stops b (areasOf b) (p .entries) (p .walked) (λ x. n (shallow-nodes mostOpen (d .nodes) .0 (subst (Shallow mostOpen) (sym (p .nodes)) x))) in
@@ -156,7 +164,7 @@ module _ {b before after : List ℕ} {r : ReadAnswer} (call : Read b before afte
 
 -- and has no values
 pub refused-valueless : (r : ReadAnswer) → (numberOf r ≡ 0 → ⊥) → valuesOf r ≡ noValues
-unfolding numberOf valuesOf
+unfolding valuesOf
 refused-valueless (answer.Done boot pairs entries) h = absurd (h refl)
 refused-valueless (answer.Refused refusal) h = refl
 refused-valueless answer.ShortList h = refl

@@ -26,10 +26,15 @@ use Rattle.fdt_reader.specs.declared.Surveyed.the-variants as surveyed
 -- ---- the answer as numbers
 
 -- the number of an answer
-unfoldable pub numberOf : ReadAnswer → ℕ
+abbrev pub numberOf : ReadAnswer → ℕ
 numberOf (answer.Done boot reservations entries) = 0
 numberOf (answer.Refused refusal) = refusalNumber refusal
 numberOf answer.ShortList = 30
+
+-- the number of a survey's answer
+abbrev pub surveyNumber : Surveyed → ℕ
+surveyNumber (surveyed.Readable a reservations entries) = 0
+surveyNumber (surveyed.Refused fault) = refusalNumber (fault .refusal)
 
 -- the values of an answer: the boot number, and how many reservations and entries there are
 pub record Values : Type 0 where

@@ -16,7 +16,7 @@ ghost use Rattle.fdt_format.specs.Walk.{walkStart};
 ghost use Rattle.fdt_walk.specs.ReaderWalk.{readerWalk};
 ghost use Rattle.fdt_walk.specs.Token.{Stands};
 ghost use Rattle.fdt_reader.specs.Pass.{put, after, Placed, Continues, first, surveyedWalk};
-ghost use Rattle.fdt_reader.specs.Reader.{surveyOf, Read};
+ghost use Rattle.fdt_reader.specs.Reader.{numberOf, surveyOf, Read};
 
 // How far a pass has come: a state of the walk, and how many entries came before it.
 struct Cursor {
@@ -46,6 +46,17 @@ pub enum ReadAnswer {
     Refused(Refusal),
     // 30: the list has no room for the entries.
     ShortList,
+}
+
+// The number of an answer.
+pub fn number(answer: ReadAnswer) -> u32
+    ensures { λ r. ⌜ r ≡ numberOf answer ⌝ }
+{
+    match answer {
+        ReadAnswer::Done(_, _, _) => 0,
+        ReadAnswer::Refused(refusal) => fdt_walk::number(refusal),
+        ReadAnswer::ShortList => 30,
+    }
 }
 
 // Writes an entry as the n-th of a list, if the list has room for it.
