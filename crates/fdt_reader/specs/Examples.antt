@@ -16,7 +16,7 @@ pub record Said : Type 0 where
   pub list : List ℕ
   pub fault : Option ℕ
 
--- a blob, a list, and what document 02 says of them
+-- a blob, a list, and what is expected of them
 pub data Example : Type 0 where
   example : List ℕ → List ℕ → Said → Example
 
@@ -30,7 +30,7 @@ unfoldable pub given : Example → Said
 given (example b list said) =
     record { number = numberOf (answerOf b list); values = valuesOf (answerOf b list); list = listAfter b list; fault = placeOf (surveyOf b) }
 
--- what document 02 says
+-- what is expected
 unfoldable pub expected : Example → Said
 expected (example b list said) = said
 
@@ -78,15 +78,15 @@ examples =
     ∷ 2 ∷ 172 ∷ 0 ∷ 0
     ∷ 2 ∷ 176 ∷ 0 ∷ 0
     ∷ [])
-    -- a bad header and endless reservations; endless reservations and a bad structure
+    -- a bad header, and reservations without an all-zero pair; such reservations, and a bad structure
     ∷ refuses (set (altered 13 1) 0 0) (room 4) 21 0
     ∷ refuses (set (altered 13 1) 59 8) (room 4) 22 40
     -- a property whose value ends outside and whose name offset is bad; one behind an end, with a bad offset
     ∷ refuses (only (1 ∷ 0 ∷ 3 ∷ 100 ∷ 4 ∷ 2 ∷ 9 ∷ []) stringA) (room 12) 23 64
     ∷ refuses (only (1 ∷ 0 ∷ 1 ∷ 0 ∷ 2 ∷ 3 ∷ 0 ∷ 4 ∷ 2 ∷ 9 ∷ []) stringA) (room 20) 23 76
-    -- a bad name offset, and disorder later
+    -- a bad name offset, and later the final word inside a node
     ∷ refuses (only (1 ∷ 0 ∷ 3 ∷ 0 ∷ 4 ∷ 9 ∷ []) stringA) (room 12) 24 64
-    -- disorder and a short list
+    -- the final word inside a node, and a short list
     ∷ refuses (only (1 ∷ 0 ∷ 9 ∷ []) []) (room 3) 23 64
     -- 64 nodes open; 65; a 65th whose name ends outside
     ∷ accepts (only (nested 64 (9 ∷ [])) []) (room 512) (record { boot = 0; reservations = 0; entries = 128 }) (nestedEntries 64 56 820)

@@ -1,5 +1,5 @@
--- When a survey answers what, and the reader which number: the first fault wins. What an accepted call tells (document 02,
--- request 1/14).
+-- When a survey gives which answer, and the reader which number. The first fault wins. Also what an accepted call tells (document
+-- 02, request 1/14).
 use mathlib.Core.Path.{_≡_}
 use mathlib.Core.Bool.{true, false}
 use mathlib.Core.List.{List, [], map}
@@ -38,10 +38,10 @@ pub record Describes (b : List ℕ) (d : Description) : Type 0 where
 pub data FirstFault (b : List ℕ) : Fault → Type 0 where
   -- the header is not good
   header : goodHeader b ≡ false → FirstFault b (record { refusal = Header; place = 0 })
-  -- it is, and no all-zero pair is inside the blob
+  -- the header is good, and no all-zero pair ends the reservations inside the blob
   reservations : goodHeader b ≡ true → readReservations b (areasOf b) ≡ none
       → FirstFault b (record { refusal = Unreadable Reservations; place = areasOf b .reservations })
-  -- both are, and the token at a state that is reached is wrong: structure, name offset or depth
+  -- header and reservations are good, and the token at a state that is reached is wrong
   token : {f : Fault} → GoodFront b → Meets b (areasOf b) f → FirstFault b f
 
 -- the number of the reader's answer

@@ -178,6 +178,7 @@ pub fn survey(blob: &[u8]) -> Surveyed
 }
 
 // Reads a blob into a list, four numbers for each entry: its token, its place, the place of its name and the length of its value.
+// A refusal writes nothing.
 pub fn read(blob: &[u8], list: &mut [u32]) -> ReadAnswer
     ensures { λ r. ⌜ Read (now (blob .entry)) (now (list .entry)) (now (list .exit)) r ⌝ }
 {
