@@ -113,7 +113,8 @@ fn property_at(blob: &[u8], a: Areas, s: State) -> Step
         return Step::Bad(Unreadable::Structure);
     }
     let size = read_u32(blob, at + 4);
-    let name = a.strings + read_u32(blob, at + 8) as usize;
+    let offset = read_u32(blob, at + 8) as usize;
+    let name = a.strings + offset;
     if a.strings_end <= name {
         return Step::Bad(Unreadable::NameOffset);
     }
