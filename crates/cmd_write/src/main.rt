@@ -6,8 +6,12 @@ mod list;
 
 // Reads the list and runs it.
 fn main() {
-    let mut input = text_calls::room::list();
-    let n = text_calls::input::read(&mut input);
+    let mut input = text_words::input::room();
+    let n = text_words::input::read(
+        &mut input,
+        b"the list cannot be read\n",
+        b"the list is longer than 1048575 bytes\n",
+    );
     if n < 1_048_576 {
         list::run(&input[..n]);
     }

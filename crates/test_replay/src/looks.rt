@@ -26,11 +26,6 @@ fn show(d: Desk) {
     shown(w.show(text_words::part(&blob, 0, d.blob_lent)), d.aloud);
 }
 
-// The lesser of two.
-fn least(a: usize, b: usize) -> usize {
-    if a < b { a } else { b }
-}
-
 // A part of the lent blob, strings or phandles.
 fn part(d: Desk, verb: usize, from: usize, to: usize) {
     let blob = d.blob;
@@ -38,16 +33,21 @@ fn part(d: Desk, verb: usize, from: usize, to: usize) {
     let phandles = d.phandles;
     match verb {
         verbs::BLOB => said::bytes(
-            text_words::part(&blob, from, least(to, d.blob_lent)),
+            text_words::part(&blob, from, text_words::least(to, d.blob_lent)),
             Style::Words,
             d.aloud,
         ),
         verbs::STRINGS => said::bytes(
-            text_words::part(&strings, from, least(to, d.strings_lent)),
+            text_words::part(&strings, from, text_words::least(to, d.strings_lent)),
             Style::Letters,
             d.aloud,
         ),
-        _ => said::cells(&phandles, from, least(to, d.phandles_lent), d.aloud),
+        _ => said::cells(
+            &phandles,
+            from,
+            text_words::least(to, d.phandles_lent),
+            d.aloud,
+        ),
     }
 }
 

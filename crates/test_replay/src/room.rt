@@ -2,13 +2,6 @@
 ghost use mathlib.Core.Path.{_≡_};
 ghost use lib.ListN.{length};
 
-// Room for a list, and one byte more.
-pub fn input() -> [u8; 1_048_576]
-    ensures { λ r. ⌜ 1048576 ≡ length r ⌝ }
-{
-    [0; 1_048_576]
-}
-
 // A blob that is longer than its ceiling.
 pub fn blob() -> [u8; 65_600]
     ensures { λ r. ⌜ 65600 ≡ length r ⌝ }

@@ -2,9 +2,9 @@
 use crate::desk::Desk;
 use crate::fields;
 use crate::looks;
-use crate::sums;
 use crate::verbs;
 use text_lines::said;
+use text_lines::sums;
 
 // The check values of what a call was lent.
 fn checks(d: Desk) -> [u64; 3] {

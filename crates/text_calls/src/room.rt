@@ -2,13 +2,6 @@
 ghost use mathlib.Core.Path.{_≡_};
 ghost use lib.ListN.{length};
 
-// A list, and one byte more.
-pub fn list() -> [u8; 1_048_576]
-    ensures { λ r. ⌜ 1048576 ≡ length r ⌝ }
-{
-    [0; 1_048_576]
-}
-
 // The names of properties, as long as their ceiling.
 pub fn names() -> [u8; 8_192]
     ensures { λ r. ⌜ 8192 ≡ length r ⌝ }

@@ -1,5 +1,8 @@
-// Pieces of a text, with one byte between two: the words of a line, the lines of a list. Numbers, digit by digit.
+// Pieces of a text, with one byte between two: the words of a line, the lines of a list. Numbers, digit by digit. Text that is
+// written in blocks, and input that is read whole.
+pub mod input;
 pub mod number;
+pub mod out;
 
 ghost use Prim.Native.Nat.{_+_, _≤_, min};
 ghost use lib.ListN.{length};
@@ -56,6 +59,13 @@ pub fn place(list: &[u8], most: usize, wanted: &[u8]) -> usize {
         k += 1;
     }
     most
+}
+
+// The lesser of two.
+pub fn least(a: usize, b: usize) -> usize
+    ensures { λ r. ⌜ r ≤ b ⌝ }
+{
+    if a < b { a } else { b }
 }
 
 // The part from one index up to another, as far as the slice reaches.

@@ -2,8 +2,8 @@
 use Prim.Native.Nat.{_≤_, _-_}
 use lib.ListN.{length}
 use borrow.Author.Needs.{needs}
-use Rattle.test_replay.proofs.sums.table.Statement.{statement}
-use Rattle.test_replay.proofs.sums.table.Tie as tie
+use Rattle.text_lines.proofs.sums.table.Statement.{statement}
+use Rattle.text_lines.proofs.sums.table.Tie as tie
 
 abbrev Inv-loop : tie.InvT-loop
 Inv-loop t most sum₀ i₀ sum i = 0 ≤ i
