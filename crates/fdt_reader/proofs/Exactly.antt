@@ -137,7 +137,6 @@ module _ {b before after : List ℕ} {r : ReadAnswer} (call : Read b before afte
 
   -- it then tells the description
   pub accepted-tells : (d : Description) → Describes b d → length (events (d .nodes) []) ≤ length before / 4 → Tells b before after r d
-  unfolding valuesOf
   accepted-tells d h room =
       let q = one-outcome call (described-done b h before room) in
       let p = parts b h in
@@ -164,7 +163,6 @@ module _ {b before after : List ℕ} {r : ReadAnswer} (call : Read b before afte
 
 -- and has no values
 pub refused-valueless : (r : ReadAnswer) → (numberOf r ≡ 0 → ⊥) → valuesOf r ≡ noValues
-unfolding valuesOf
 refused-valueless (answer.Done boot pairs entries) h = absurd (h refl)
 refused-valueless (answer.Refused refusal) h = refl
 refused-valueless answer.ShortList h = refl

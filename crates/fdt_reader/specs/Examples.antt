@@ -1,34 +1,27 @@
 -- Examples of request 1/14 (document 02), one table: blobs made by hand, and what the reader says of each. A blob with two faults
 -- shows which one wins.
 use mathlib.Core.List.{List, [], _∷_, _++_}
-use mathlib.Core.Option.{Option, none, some}
 use Prim.Native.Nat.{ℕ, zero, suc, _+_, _-_}
 use lib.ListN.{set, take, replicate}
 use Rattle.fdt_format.specs.Foreign.{altered, only, stringA, nested, ninetyTwo, tails}
-use Rattle.fdt_reader.specs.declared.Surveyed.{Surveyed}
-use Rattle.fdt_reader.specs.declared.Surveyed.the-variants.{Readable, Refused}
-use Rattle.fdt_reader.specs.Reader.{numberOf, Values, noValues, valuesOf, surveyOf, answerOf, listAfter}
+use Rattle.fdt_reader.specs.declared.Values.{Values}
+use Rattle.fdt_reader.specs.Reader.{numberOf, faultPlace, noValues, valuesOf, surveyOf, answerOf, listAfter}
 
--- what is said of a blob and a list: the number and the values of the answer, the list afterwards, and the place of the first fault
+-- what is said of a blob and a list: the number and the values of the answer, the list afterwards, and the place of the first fault, or 0
 pub record Said : Type 0 where
   pub number : ℕ
   pub values : Values
   pub list : List ℕ
-  pub fault : Option ℕ
+  pub fault : ℕ
 
 -- a blob, a list, and what is expected of them
 pub data Example : Type 0 where
   example : List ℕ → List ℕ → Said → Example
 
--- the place of a survey's fault
-unfoldable pub placeOf : Surveyed → Option ℕ
-placeOf (Readable a reservations entries) = none
-placeOf (Refused fault) = some (fault .place)
-
 -- what the reader and the survey say
 unfoldable pub given : Example → Said
 given (example b list said) =
-    record { number = numberOf (answerOf b list); values = valuesOf (answerOf b list); list = listAfter b list; fault = placeOf (surveyOf b) }
+    record { number = numberOf (answerOf b list); values = valuesOf (answerOf b list); list = listAfter b list; fault = faultPlace (surveyOf b) }
 
 -- what is expected
 unfoldable pub expected : Example → Said
@@ -36,15 +29,15 @@ expected (example b list said) = said
 
 -- accepted: the values, and the list afterwards
 unfoldable pub accepts : List ℕ → List ℕ → Values → List ℕ → Example
-accepts b list values after = example b list (record { number = 0; values = values; list = after; fault = none })
+accepts b list values after = example b list (record { number = 0; values = values; list = after; fault = 0 })
 
 -- the list is too short
 unfoldable pub short : List ℕ → List ℕ → Example
-short b list = example b list (record { number = 30; values = noValues; list = list; fault = none })
+short b list = example b list (record { number = 30; values = noValues; list = list; fault = 0 })
 
 -- refused: the number, and the place of the fault
 unfoldable pub refuses : List ℕ → List ℕ → ℕ → ℕ → Example
-refuses b list number place = example b list (record { number = number; values = noValues; list = list; fault = some place })
+refuses b list number place = example b list (record { number = number; values = noValues; list = list; fault = place })
 
 -- a list of n numbers
 unfoldable pub room : ℕ → List ℕ

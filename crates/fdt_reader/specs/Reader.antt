@@ -22,6 +22,7 @@ use Rattle.fdt_reader.specs.declared.ReadAnswer.{ReadAnswer}
 use Rattle.fdt_reader.specs.declared.ReadAnswer.the-variants as answer
 use Rattle.fdt_reader.specs.declared.Surveyed.{Surveyed}
 use Rattle.fdt_reader.specs.declared.Surveyed.the-variants as surveyed
+use Rattle.fdt_reader.specs.declared.Values.{Values}
 
 -- ---- the answer as numbers
 
@@ -36,18 +37,17 @@ abbrev pub surveyNumber : Surveyed → ℕ
 surveyNumber (surveyed.Readable a reservations entries) = 0
 surveyNumber (surveyed.Refused fault) = refusalNumber (fault .refusal)
 
--- the values of an answer: the boot number, and how many reservations and entries there are
-pub record Values : Type 0 where
-  pub boot : ℕ
-  pub reservations : ℕ
-  pub entries : ℕ
+-- the place of a survey's fault; 0 if there is none
+abbrev pub faultPlace : Surveyed → ℕ
+faultPlace (surveyed.Readable a reservations entries) = 0
+faultPlace (surveyed.Refused fault) = fault .place
 
 -- all 0
-unfoldable pub noValues : Values
+abbrev pub noValues : Values
 noValues = record { boot = 0; reservations = 0; entries = 0 }
 
 -- all 0 if refused
-unfoldable pub valuesOf : ReadAnswer → Values
+abbrev pub valuesOf : ReadAnswer → Values
 valuesOf (answer.Done boot reservations entries) = record { boot = boot; reservations = reservations; entries = entries }
 valuesOf (answer.Refused refusal) = noValues
 valuesOf answer.ShortList = noValues

@@ -16,7 +16,7 @@ ghost use Rattle.fdt_format.specs.Walk.{walkStart};
 ghost use Rattle.fdt_walk.specs.ReaderWalk.{readerWalk};
 ghost use Rattle.fdt_walk.specs.Token.{Stands};
 ghost use Rattle.fdt_reader.specs.Pass.{put, after, Placed, Continues, first, surveyedWalk};
-ghost use Rattle.fdt_reader.specs.Reader.{numberOf, surveyOf, Read};
+ghost use Rattle.fdt_reader.specs.Reader.{numberOf, noValues, valuesOf, faultPlace, surveyOf, Read};
 
 // How far a pass has come: a state of the walk, and how many entries came before it.
 struct Cursor {
@@ -48,6 +48,13 @@ pub enum ReadAnswer {
     ShortList,
 }
 
+// The values of an answer: the boot number, and how many reservations and entries there are.
+pub struct Values {
+    pub boot: u32,
+    pub reservations: usize,
+    pub entries: usize,
+}
+
 // The number of an answer.
 pub fn number(answer: ReadAnswer) -> u32
     ensures { λ r. ⌜ r ≡ numberOf answer ⌝ }
@@ -56,6 +63,42 @@ pub fn number(answer: ReadAnswer) -> u32
         ReadAnswer::Done(_, _, _) => 0,
         ReadAnswer::Refused(refusal) => fdt_walk::number(refusal),
         ReadAnswer::ShortList => 30,
+    }
+}
+
+// All 0.
+fn no_values() -> Values
+    ensures { λ r. ⌜ r ≡ noValues ⌝ }
+{
+    Values {
+        boot: 0,
+        reservations: 0,
+        entries: 0,
+    }
+}
+
+// The values of an answer, all 0 if refused.
+pub fn values_of(answer: ReadAnswer) -> Values
+    ensures { λ r. ⌜ r ≡ valuesOf answer ⌝ }
+{
+    match answer {
+        ReadAnswer::Done(boot, reservations, entries) => Values {
+            boot,
+            reservations,
+            entries,
+        },
+        ReadAnswer::Refused(_) => no_values(),
+        ReadAnswer::ShortList => no_values(),
+    }
+}
+
+// The place of a survey's fault; 0 if there is none.
+pub fn fault_place(seen: Surveyed) -> usize
+    ensures { λ r. ⌜ r ≡ faultPlace seen ⌝ }
+{
+    match seen {
+        Surveyed::Readable(_, _, _) => 0,
+        Surveyed::Refused(fault) => fault.place,
     }
 }
 
