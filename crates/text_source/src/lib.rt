@@ -1,0 +1,199 @@
+// The source of a devicetree, as dtc prints it: names, and values as strings, cells or bytes.
+use text_words::out;
+use text_words::out::Out;
+
+// How a value is printed.
+enum Shape {
+    Text,
+    Cells,
+    Bytes,
+}
+
+// Whether a byte is printed as it is.
+fn printable(b: u8) -> bool {
+    32 <= b && b < 127
+}
+
+// Whether a byte may be part of a name in a source.
+fn in_name(b: u8) -> bool {
+    match b {
+        b'a'..=b'z' | b'A'..=b'Z' | b'0'..=b'9' => true,
+        b',' | b'.' | b'_' | b'+' | b'*' | b'#' | b'?' | b'@' | b'-' => true,
+        _ => false,
+    }
+}
+
+// The letter that stands for a byte after a backslash; 0 if there is none.
+fn letter(b: u8) -> u8 {
+    match b {
+        7 => b'a',
+        8 => b'b',
+        9 => b't',
+        10 => b'n',
+        11 => b'v',
+        12 => b'f',
+        13 => b'r',
+        b'\\' => b'\\',
+        b'"' => b'"',
+        _ => 0,
+    }
+}
+
+// Whether a byte may be part of a value that is printed as strings.
+fn in_text(b: u8) -> bool {
+    b == 0 || printable(b) || letter(b) != 0
+}
+
+// A count of zeros, with one byte more.
+fn counted(zeros: usize, b: u8) -> usize {
+    if b == 0 {
+        return std::num::wrapping_add_usize(zeros, 1);
+    }
+    zeros
+}
+
+// Whether a value is strings: it ends with a 0, each byte may be part of a string, and at most half are 0.
+fn is_text(value: &[u8]) -> bool {
+    let mut zeros = 0;
+    let mut last = 1;
+    let mut i = 0;
+    while i < value.len() {
+        last = value[i];
+        if !in_text(last) {
+            return false;
+        }
+        zeros = counted(zeros, last);
+        i += 1;
+    }
+    last == 0 && zeros <= std::num::wrapping_sub_usize(value.len(), zeros)
+}
+
+// How dtc prints a value that is not empty.
+fn guessed(value: &[u8]) -> Shape {
+    if is_text(value) {
+        return Shape::Text;
+    }
+    if value.len() % 4 == 0 {
+        return Shape::Cells;
+    }
+    Shape::Bytes
+}
+
+// A byte as two hexadecimal digits after `\x`.
+fn escaped(o: Out, b: u8) -> Out {
+    out::hex_byte(out::text(o, b"\\x"), b)
+}
+
+// A byte 0 inside a string, before another byte. Before an octal digit it has three digits, because it would otherwise mean
+// another byte.
+fn zero(o: Out, next: u8) -> Out {
+    if b'0' <= next && next <= b'7' {
+        return out::text(o, b"\\000");
+    }
+    out::text(o, b"\\0")
+}
+
+// A byte of a string, before another byte.
+fn character(o: Out, b: u8, next: u8) -> Out {
+    if b == 0 {
+        return zero(o, next);
+    }
+    let l = letter(b);
+    if l != 0 {
+        return out::byte(out::byte(o, b'\\'), l);
+    }
+    if printable(b) {
+        return out::byte(o, b);
+    }
+    escaped(o, b)
+}
+
+// Strings, in quotes, without the last 0.
+fn text(mut o: Out, value: &[u8]) -> Out {
+    o = out::text(o, b"\"");
+    let mut i = 0;
+    while i < value.len() && i + 1 < value.len() {
+        o = character(o, value[i], value[i + 1]);
+        i += 1;
+    }
+    out::text(o, b"\"")
+}
+
+// A number of 4 bytes with one byte more at its end, and without the first.
+fn joined(n: u64, b: u8) -> u64 {
+    n % 0x100_0000 * 256 + b as u64
+}
+
+// A number of 4 bytes; a space comes before it, except before the first.
+fn cell(o: Out, n: u64, first: bool) -> Out {
+    let o = if first { o } else { out::byte(o, b' ') };
+    out::hex(out::text(o, b"0x"), n, 2)
+}
+
+// Numbers of 4 bytes, in angle brackets.
+fn cells(mut o: Out, value: &[u8]) -> Out {
+    o = out::text(o, b"<");
+    let mut n: u64 = 0;
+    let mut i: usize = 0;
+    while i < value.len() {
+        n = joined(n, value[i]);
+        i += 1;
+        if i % 4 == 0 {
+            o = cell(o, n, i == 4);
+        }
+    }
+    out::text(o, b">")
+}
+
+// Bytes, in square brackets.
+fn bytes(mut o: Out, value: &[u8]) -> Out {
+    o = out::text(o, b"[");
+    let mut i = 0;
+    while i < value.len() {
+        if 0 < i {
+            o = out::byte(o, b' ');
+        }
+        o = out::hex_byte(o, value[i]);
+        i += 1;
+    }
+    out::text(o, b"]")
+}
+
+// What follows the name of a property: nothing for an empty value.
+pub fn value(o: Out, value: &[u8]) -> Out {
+    if value.len() == 0 {
+        return o;
+    }
+    let after = out::text(o, b" = ");
+    let s = guessed(value);
+    match s {
+        Shape::Text => text(after, value),
+        Shape::Cells => cells(after, value),
+        Shape::Bytes => bytes(after, value),
+    }
+}
+
+// A name. A byte that no source allows there is escaped, so that a name cannot look like something else.
+pub fn name(mut o: Out, name: &[u8]) -> Out {
+    let mut i = 0;
+    while i < name.len() {
+        let b = name[i];
+        o = if in_name(b) {
+            out::byte(o, b)
+        } else {
+            escaped(o, b)
+        };
+        i += 1;
+    }
+    o
+}
+
+// Tabs in front of a line.
+pub fn indent(mut o: Out, depth: usize) -> Out {
+    let mut left = depth;
+    while 0 < left {
+        o = out::byte(o, b'\t');
+        left -= 1;
+    }
+    o
+}
