@@ -1,4 +1,7 @@
 // Times the original and ours on the same calls: bytes compared first, then interleaved rounds.
+mod bench_time;
+
+use bench_time::{in_turn, line, rounds};
 use std::hint::black_box;
 use vm_fdt::FdtWriter;
 
@@ -14,7 +17,6 @@ extern "C" {
         strings: *mut u8,
         strings_len: usize,
     ) -> usize;
-    fn clock_gettime(clock: i32, time: *mut [i64; 2]) -> i32;
 }
 
 // A call: 1 begins a node, 2 ends the last one, 3 writes a property, 9 finishes; where its name and its value stand in the text.
@@ -87,62 +89,21 @@ fn ours(w: &Work, lent: &mut Lent) -> usize {
     }
 }
 
-// The time that this thread has run, in nanoseconds: what else the machine does is not in it.
-fn now() -> f64 {
-    const THREAD_CPUTIME: i32 = 3;
-    let mut time = [0; 2];
-    assert!(unsafe { clock_gettime(THREAD_CPUTIME, &mut time) } == 0, "this machine does not tell a thread's time");
-    time[0] as f64 * 1e9 + time[1] as f64
-}
-
-// Nanoseconds for one build, over so many.
-fn time(builds: usize, mut build: impl FnMut()) -> f64 {
-    let began = now();
-    (0..builds).for_each(|_| build());
-    (now() - began) / builds as f64
-}
-
-fn median(mut all: Vec<f64>) -> f64 {
-    all.sort_by(f64::total_cmp);
-    all[all.len() / 2]
-}
-
-fn best(all: &[f64]) -> f64 {
-    all.iter().copied().fold(f64::MAX, f64::min)
-}
-
 // Compares the bytes, then times both in turn: one line of the report.
 fn measure(name: &str, w: &Work, rounds: usize) {
     let mut lent = Lent { blob: vec![0xee; 65_536], strings: vec![0xee; 8_192] };
     let (theirs, n) = (original(w), ours(w, &mut lent));
     assert!(theirs == lent.blob[..n], "{name}: the blobs differ: {} bytes and {n}", theirs.len());
-    let once = time(3, || drop(black_box(original(black_box(w)))));
-    let builds = ((5e6 / once) as usize).clamp(3, 5_000);
-    let (mut a, mut b) = (Vec::new(), Vec::new());
-    for round in 0..rounds {
-        for turn in 0..2 {
-            if (round + turn) % 2 == 0 {
-                a.push(time(builds, || drop(black_box(original(black_box(w))))));
-            } else {
-                b.push(time(builds, || {
-                    black_box(ours(black_box(w), &mut lent));
-                }));
-            }
-        }
-    }
-    let ratio = median(a.iter().zip(&b).map(|(a, b)| b / a).collect());
-    println!(
-        "{name:<34} {:>6} bytes  original {:>9.0} ns  ours {:>9.0} ns  ratio: median {:.2}, best {:.2}",
-        theirs.len(),
-        best(&a),
-        best(&b),
-        ratio,
-        best(&b) / best(&a),
-    );
+    let mut build_original = || drop(black_box(original(black_box(w))));
+    let mut build_ours = || {
+        black_box(ours(black_box(w), &mut lent));
+    };
+    let [a, b] = in_turn(rounds, [&mut build_original, &mut build_ours]);
+    println!("{}", line(name, theirs.len(), "original", &a, &b));
 }
 
 fn main() {
-    let rounds: usize = std::env::args().nth(1).map_or(41, |s| s.parse().expect("usage: bench [ROUNDS]"));
+    let rounds = rounds();
     measure("500 nodes, 40 names", &Work::new(500, 40, 4), rounds);
     println!("\nas the nodes grow (40 names):");
     for nodes in [31, 62, 125, 250, 500] {
