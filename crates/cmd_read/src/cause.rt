@@ -207,19 +207,24 @@ fn row(mut o: Out, text: &[u8], n: u64, length: u64) -> Out {
     o
 }
 
+// The sentence of a cause.
+fn sentence(o: Out, c: Cause, length: u64) -> Out {
+    row(o, text_words::nth(&CAUSES, c.row, b'\n'), c.number, length)
+}
+
+// The number of a refusal and its place.
+fn heading(number: u64, place: u64) -> Out {
+    let o = out::text(out::to(libc::STDERR_FILENO), b"refused ");
+    let o = out::text(out::decimal(o, number), b" at ");
+    out::byte(out::byte(out::decimal(o, place), b':'), b' ')
+}
+
 // Says why a blob is refused, and where.
 pub fn refused(blob: &[u8], fault: Fault) {
     let refusal = fault.refusal;
     let number = fdt_walk::number(refusal);
-    let c = found(blob, number, fault.place);
-    let o = out::text(out::to(libc::STDERR_FILENO), b"refused ");
-    let o = out::text(out::decimal(o, number as u64), b" at ");
-    let o = out::text(out::decimal(o, fault.place as u64), b": ");
-    let o = row(
-        o,
-        text_words::nth(&CAUSES, c.row, b'\n'),
-        c.number,
-        blob.len() as u64,
-    );
+    let place = fault.place;
+    let c = found(blob, number, place);
+    let o = sentence(heading(number as u64, place as u64), c, blob.len() as u64);
     out::flush(out::byte(o, b'\n'));
 }

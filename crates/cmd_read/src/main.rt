@@ -7,6 +7,7 @@ mod tree;
 
 use fdt_reader::Surveyed;
 use text_words::out;
+use text_words::out::Out;
 
 // Whether the entries are asked for.
 fn entries_asked() -> bool {
@@ -15,10 +16,22 @@ fn entries_asked() -> bool {
     check::same(&word[..n], b"entries")
 }
 
-// Says that the output cannot be written, if it was not.
-fn told(written: bool) {
-    if !written {
+// Writes what is left of the output, and says so if it cannot be written.
+fn told(o: Out) {
+    if !out::flush(o) {
         io::write_all(libc::STDERR_FILENO, b"the output cannot be written\n");
+    }
+}
+
+// Writes the tree of a blob, or the reader's entries.
+fn shown(blob: &[u8], seen: Surveyed, list: &[u32], as_entries: bool) {
+    match seen {
+        Surveyed::Refused(fault) => cause::refused(blob, fault),
+        Surveyed::Readable(a, reservations, entries) => {
+            if !as_entries {
+                told(tree::all(blob, a, reservations, entries, list));
+            }
+        }
     }
 }
 
@@ -26,18 +39,10 @@ fn told(written: bool) {
 fn read(blob: &[u8], as_entries: bool) {
     let mut list = room::numbers();
     let answer = fdt_reader::read(blob, &mut list);
-    let seen = fdt_reader::survey(blob);
     if as_entries {
-        told(out::flush(entries::all(&list, answer)));
+        told(entries::all(&list, answer));
     }
-    match seen {
-        Surveyed::Refused(fault) => cause::refused(blob, fault),
-        Surveyed::Readable(a, reservations, entries) => {
-            if !as_entries {
-                told(out::flush(tree::all(blob, a, reservations, entries, &list)));
-            }
-        }
-    }
+    shown(blob, fdt_reader::survey(blob), &list, as_entries);
 }
 
 // Reads the blob and writes what it holds.

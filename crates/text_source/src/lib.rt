@@ -79,18 +79,24 @@ fn guessed(value: &[u8]) -> Shape {
     Shape::Bytes
 }
 
-// A byte as two hexadecimal digits after `\x`.
+// A byte after a backslash.
 fn escaped(o: Out, b: u8) -> Out {
-    out::hex_byte(out::text(o, b"\\x"), b)
+    out::byte(out::byte(o, b'\\'), b)
+}
+
+// A byte as two hexadecimal digits after `\x`.
+fn escaped_hex(o: Out, b: u8) -> Out {
+    out::hex_byte(escaped(o, b'x'), b)
 }
 
 // A byte 0 inside a string, before another byte. Before an octal digit it has three digits, because it would otherwise mean
 // another byte.
 fn zero(o: Out, next: u8) -> Out {
+    let short = escaped(o, b'0');
     if b'0' <= next && next <= b'7' {
-        return out::text(o, b"\\000");
+        return out::byte(out::byte(short, b'0'), b'0');
     }
-    out::text(o, b"\\0")
+    short
 }
 
 // A byte of a string, before another byte.
@@ -100,23 +106,36 @@ fn character(o: Out, b: u8, next: u8) -> Out {
     }
     let l = letter(b);
     if l != 0 {
-        return out::byte(out::byte(o, b'\\'), l);
+        return escaped(o, l);
     }
     if printable(b) {
         return out::byte(o, b);
     }
-    escaped(o, b)
+    escaped_hex(o, b)
 }
 
 // Strings, in quotes, without the last 0.
 fn text(mut o: Out, value: &[u8]) -> Out {
-    o = out::text(o, b"\"");
+    o = out::byte(o, b'"');
     let mut i = 0;
     while i < value.len() && i + 1 < value.len() {
         o = character(o, value[i], value[i + 1]);
         i += 1;
     }
-    out::text(o, b"\"")
+    out::byte(o, b'"')
+}
+
+// A space, except before the first of several.
+fn spaced(o: Out, first: bool) -> Out {
+    if first {
+        return o;
+    }
+    out::byte(o, b' ')
+}
+
+// A number in hexadecimal after `0x`, of at least so many digits.
+pub fn number(o: Out, n: u64, width: usize) -> Out {
+    out::hex(out::byte(out::byte(o, b'0'), b'x'), n, width)
 }
 
 // A number of 4 bytes with one byte more at its end, and without the first.
@@ -124,39 +143,40 @@ fn joined(n: u64, b: u8) -> u64 {
     n % 0x100_0000 * 256 + b as u64
 }
 
-// A number of 4 bytes; a space comes before it, except before the first.
-fn cell(o: Out, n: u64, first: bool) -> Out {
-    let o = if first { o } else { out::byte(o, b' ') };
-    out::hex(out::text(o, b"0x"), n, 2)
-}
-
 // Numbers of 4 bytes, in angle brackets.
 fn cells(mut o: Out, value: &[u8]) -> Out {
-    o = out::text(o, b"<");
+    o = out::byte(o, b'<');
     let mut n: u64 = 0;
     let mut i: usize = 0;
     while i < value.len() {
         n = joined(n, value[i]);
         i += 1;
         if i % 4 == 0 {
-            o = cell(o, n, i == 4);
+            o = number(spaced(o, i == 4), n, 2);
         }
     }
-    out::text(o, b">")
+    out::byte(o, b'>')
 }
 
 // Bytes, in square brackets.
 fn bytes(mut o: Out, value: &[u8]) -> Out {
-    o = out::text(o, b"[");
+    o = out::byte(o, b'[');
     let mut i = 0;
     while i < value.len() {
-        if 0 < i {
-            o = out::byte(o, b' ');
-        }
-        o = out::hex_byte(o, value[i]);
+        o = out::hex_byte(spaced(o, i == 0), value[i]);
         i += 1;
     }
-    out::text(o, b"]")
+    out::byte(o, b']')
+}
+
+// A value that is not empty.
+fn shaped(o: Out, value: &[u8]) -> Out {
+    let s = guessed(value);
+    match s {
+        Shape::Text => text(o, value),
+        Shape::Cells => cells(o, value),
+        Shape::Bytes => bytes(o, value),
+    }
 }
 
 // What follows the name of a property: nothing for an empty value.
@@ -164,28 +184,33 @@ pub fn value(o: Out, value: &[u8]) -> Out {
     if value.len() == 0 {
         return o;
     }
-    let after = out::text(o, b" = ");
-    let s = guessed(value);
-    match s {
-        Shape::Text => text(after, value),
-        Shape::Cells => cells(after, value),
-        Shape::Bytes => bytes(after, value),
+    shaped(out::text(o, b" = "), value)
+}
+
+// A byte of a name.
+fn name_byte(o: Out, b: u8) -> Out {
+    if in_name(b) {
+        return out::byte(o, b);
     }
+    escaped_hex(o, b)
 }
 
 // A name. A byte that no source allows there is escaped, so that a name cannot look like something else.
 pub fn name(mut o: Out, name: &[u8]) -> Out {
     let mut i = 0;
     while i < name.len() {
-        let b = name[i];
-        o = if in_name(b) {
-            out::byte(o, b)
-        } else {
-            escaped(o, b)
-        };
+        o = name_byte(o, name[i]);
         i += 1;
     }
     o
+}
+
+// The name of a node; an empty one is `/`.
+pub fn node_name(o: Out, node: &[u8]) -> Out {
+    if node.len() == 0 {
+        return out::byte(o, b'/');
+    }
+    name(o, node)
 }
 
 // Tabs in front of a line.

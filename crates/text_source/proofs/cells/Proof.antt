@@ -6,10 +6,10 @@ use Rattle.text_source.proofs.cells.Statement.{statement}
 use Rattle.text_source.proofs.cells.Tie as tie
 
 abbrev Inv-loop : tie.InvT-loop
-Inv-loop o₀ value n₀ i₀ t6 o n i = 0 ≤ i
+Inv-loop o₀ value n₀ i₀ o n i = 0 ≤ i
 
 abbrev μ-loop : tie.MeasureT-loop
-μ-loop o₀ value n₀ i₀ t6 o n i = length value - i
+μ-loop o₀ value n₀ i₀ o n i = length value - i
 
 pub cells-spec : {M : Type 1} → statement M
 cells-spec =
@@ -17,6 +17,6 @@ cells-spec =
     (tie.spec
     Inv-loop
     μ-loop
-    (λ c. search needs) (λ c κs. search needs) (λ c. search needs) (λ c. search needs) (λ c κs. search needs)
-    (λ c. search needs) (λ c κs. search needs) (λ c. search needs) (λ c. search needs) (λ c. search needs)
-    (λ c. search needs) (λ c. search needs) (λ c κs. search needs) (λ c. search needs))
+    (λ c κs. search needs) (λ c. search needs) (λ c. search needs) (λ c κs. search needs) (λ c. search needs)
+    (λ c κs. search needs) (λ c κs. search needs) (λ c. search needs) (λ c. search needs) (λ c. search needs)
+    (λ c. search needs) (λ c κs. search needs) (λ c. search needs))
