@@ -1,13 +1,19 @@
-# What tools/compare, tools/outside, tools/mutants and tools/oracle/sample share: building the judge, making lists, running programs.
+# What tools/compare, tools/compare-reader, tools/outside, tools/mutants and tools/oracle/sample share: building a judge,
+# making lists, running programs, comparing what both write.
 import argparse
+import collections
+import concurrent.futures
 import os
 import re
 import shutil
 import subprocess
+import sys
+import time
 
 TOP = os.path.dirname(os.path.dirname(os.path.dirname(os.path.abspath(__file__))))
 ORACLE = os.path.join(TOP, "tools", "oracle")
-PROGRAM = os.path.join(TOP, "target", "bin", "test_replay")
+BIN = os.path.join(TOP, "target", "bin")
+PROGRAM = os.path.join(BIN, "test_replay")
 # The lines that begin the sample in the program's own stdin; tools/oracle/sample writes it.
 SAMPLE = b"quiet\n# The sample that tools/oracle/sample wrote, by: "
 # A program that has not ended after so many seconds never will.
@@ -53,38 +59,119 @@ def runner(program):
     return first + [loader, "--library-path", os.path.join(tools, "lib"), program]
 
 
-def built(folder):
-    """The judge, built into a folder."""
-    done = subprocess.run([os.path.join(ORACLE, "build"), folder], stderr=subprocess.PIPE, text=True)
+def built(folder, judge="oracle"):
+    """A judge, built into a folder."""
+    done = subprocess.run([os.path.join(ORACLE, "build"), folder, judge], stderr=subprocess.PIPE, text=True)
     if done.returncode == 3:
         raise Trouble(3, done.stderr.strip().removeprefix("tools/oracle/build: not built: "))
     if done.returncode != 0:
         raise Trouble(1, "the judge cannot be built:\n" + done.stderr.strip())
-    return os.path.join(folder, "oracle")
+    return os.path.join(folder, judge)
 
 
-def lists(oracle, seeds, short):
-    """The lists by name: how each is generated."""
-    if short:
-        yield "names", [oracle, "gen", "names"]
-        yield "corners", [oracle, "gen", "corners"]
-        part = 0
-        while run([oracle, "gen", "calls", str(part)]):
-            yield f"calls-{part}", [oracle, "gen", "calls", str(part)]
-            part += 1
-    for seed in seeds:
-        yield f"seed-{seed}", [oracle, "gen", str(seed)]
+class Kind:
+    """A program that runs lists, its judge, and the tool that compares them: the lists made whole, those made in parts, and which lines of a list write a line."""
+
+    def __init__(self, program, judge, tool, whole, in_parts, told):
+        self.program, self.judge, self.tool, self.whole, self.in_parts, self.told = program, judge, tool, whole, in_parts, told
+
+    def lists(self, judge, seeds, short):
+        """The lists by name: how each is generated."""
+        for name in self.whole if short else ():
+            yield name, [judge, "gen", name]
+        for name in self.in_parts if short else ():
+            part = 0
+            while run([judge, "gen", name, str(part)]):
+                yield f"{name}-{part}", [judge, "gen", name, str(part)]
+                part += 1
+        for seed in seeds:
+            yield f"seed-{seed}", [judge, "gen", str(seed)]
+
+    def first_difference(self, name, given, expected, found):
+        """Where two outputs part, with the line of the list that they tell of."""
+        want, got = expected.split(b"\n"), found.split(b"\n")
+        k = next((k for k, (a, b) in enumerate(zip(want, got)) if a != b), min(len(want), len(got)))
+        told = [(n, line) for n, line in enumerate(given.split(b"\n"), 1) if re.match(self.told, line)]
+        number, line = told[k] if k < len(told) else (0, b"the end of the list")
+        show = lambda lines: lines[k].decode("ascii", "replace")[:400] if k < len(lines) else "nothing"
+        return (f"list {name}, line {number}: {line.decode('ascii', 'replace')[:200]}\n"
+                f"  expected {show(want)}\n  found    {show(got)}")
+
+    def compare(self, name, command, judge, program, keep):
+        """Runs one list on both sides: its counts, or trouble."""
+        place = os.path.join(keep, name)
+        given = run(command)
+        try:
+            expected = run([judge, "expect", place + ".counts"], given, "the judge, on list " + name)
+            found = run(program, given, f"{self.program}, on list {name}")
+        except Trouble:
+            save(place + ".list", given)
+            raise
+        if expected != found:
+            for end, text in ((".list", given), (".expected", expected), (".found", found)):
+                save(place + end, text)
+            raise Trouble(1, self.first_difference(name, given, expected, found))
+        return counts(place + ".counts")
+
+    def compared(self, o, judge):
+        """Compares all lists: the sum of their counts, and how many lists there were."""
+        os.makedirs(o.keep, exist_ok=True)
+        total, number, program = collections.Counter(), 0, runner(o.program)
+        with concurrent.futures.ThreadPoolExecutor(max(1, o.jobs)) as pool:
+            waiting = [pool.submit(self.compare, name, command, judge, program, o.keep) for name, command in self.lists(judge, o.seeds, not o.no_short)]
+            try:
+                for one in waiting:
+                    total += one.result()
+                    number += 1
+            finally:
+                pool.shutdown(cancel_futures=True)
+        return total, number
+
+    def options(self, words, text, status):
+        """The command line of the tool."""
+        folder = os.path.join("build", self.tool)
+        parser = argparse.ArgumentParser(prog="tools/" + self.tool, description=text, epilog=status, formatter_class=argparse.RawDescriptionHelpFormatter)
+        parser.add_argument("seeds", nargs="?", type=seeds_of, default=seeds_of("8"), metavar="SEEDS", help="how many seeds, or FIRST-LAST (default: 8)")
+        parser.add_argument("--program", default=os.path.join(BIN, self.program), metavar="FILE", help=f"the program to compare (default: target/bin/{self.program})")
+        parser.add_argument("--keep", default=os.path.join(TOP, folder), metavar="FOLDER", help=f"where to keep lists that differ (default: {folder})")
+        parser.add_argument("--jobs", type=int, default=min(2, os.cpu_count() or 1), metavar="N", help="how many lists to run at a time (default: 2)")
+        parser.add_argument("--no-short", action="store_true", help="only the random lists, without the fixed ones")
+        parser.add_argument("--any-counts", action="store_true", help="do not check or print what occurred")
+        return parser.parse_args(words)
+
+    def main(self, o, beside, compared, verdict):
+        """Runs the tool, and says how it went: the exit status."""
+        began = time.monotonic()
+        try:
+            if not os.access(o.program, os.X_OK):
+                raise Trouble(3, f"{o.program} is not there (rt check {self.program} makes it)")
+            total, number = compared(o)
+            print(f"tools/{self.tool}: {number} lists, {verdict(total, o.any_counts)}: all the same ({time.monotonic() - began:.0f} s)")
+            return 0
+        except Trouble as trouble:
+            sys.stdout.flush()
+            kind = f"NOT RUN, nothing is compared with {beside}" if trouble.status == 3 else "failed"
+            print(f"tools/{self.tool}: {kind}: {trouble}", file=sys.stderr)
+            return trouble.status
 
 
-def first_difference(name, given, expected, found):
-    """Where two outputs part, with the line of the list that they tell of."""
-    want, got = expected.split(b"\n"), found.split(b"\n")
-    k = next((k for k, (a, b) in enumerate(zip(want, got)) if a != b), min(len(want), len(got)))
-    told = [(n, line) for n, line in enumerate(given.split(b"\n"), 1) if re.match(rb"(new|begin|end|property|finish|show)|set_boot", line)]
-    number, line = told[k] if k < len(told) else (0, b"the end of the list")
-    show = lambda lines: lines[k].decode("ascii", "replace")[:400] if k < len(lines) else "nothing"
-    return (f"list {name}, line {number}: {line.decode('ascii', 'replace')[:200]}\n"
-            f"  expected {show(want)}\n  found    {show(got)}")
+REPLAY = Kind("test_replay", "oracle", "compare", ["names", "corners"], ["calls"], rb"(new|begin|end|property|finish|show)|set_boot")
+READER = Kind("test_reader", "reader", "compare-reader", ["examples", "cut"], ["bytes", "words"], rb"(?!(put|lend) )")
+
+
+def counts(path):
+    """What a judge's file of counts says."""
+    with open(path, encoding="ascii") as f:
+        return collections.Counter({tuple(words[:-1]): int(words[-1]) for words in (line.rstrip("\n").split("\t") for line in f)})
+
+
+def check_counts(wanted, found, table):
+    """Trouble if something that must occur did not, or something else did."""
+    told = lambda keys: ", ".join(" ".join(k).strip() for k in sorted(keys))
+    if wanted - found:
+        raise Trouble(1, "these did not occur: " + told(wanted - found))
+    if found - wanted:
+        raise Trouble(1, f"these occurred, and {table} does not list them: " + told(found - wanted))
 
 
 def load(path):

@@ -2,34 +2,7 @@
 // The model is run along, so that a block knows where it stands: few calls go to closed writers, and rooms are met exactly.
 use crate::list::{line, prepare, Step};
 use crate::model::{Call, Model, Value};
-
-// The longest list that test_replay reads.
-const LONGEST: usize = 1_048_575;
-
-// Random numbers (splitmix64).
-struct Rng(u64);
-
-impl Rng {
-    fn next(&mut self) -> u64 {
-        self.0 = self.0.wrapping_add(0x9e37_79b9_7f4a_7c15);
-        let z = (self.0 ^ (self.0 >> 30)).wrapping_mul(0xbf58_476d_1ce4_e5b9);
-        let z = (z ^ (z >> 27)).wrapping_mul(0x94d0_49bb_1331_11eb);
-        z ^ (z >> 31)
-    }
-
-    fn below(&mut self, n: u64) -> u64 {
-        self.next() % n
-    }
-
-    // True once in n times.
-    fn once_in(&mut self, n: u64) -> bool {
-        self.below(n) == 0
-    }
-
-    fn of<T: Clone>(&mut self, all: &[T]) -> T {
-        all[self.below(all.len() as u64) as usize].clone()
-    }
-}
+use crate::shared::{Rng, LONGEST};
 
 // A list so far, and where the model stands after it.
 struct Lines {

@@ -1,5 +1,6 @@
 // Call lists as docs/REPLAY.md has them: lines to steps, and steps to lines.
 use crate::model::{Call, Model, Value, BLOB, PHANDLES, STRINGS};
+use crate::shared::{meant, number, put, spelled};
 
 // A line of a list.
 #[derive(Clone, PartialEq, Eq, Debug)]
@@ -35,50 +36,6 @@ pub fn name(call: &Call) -> &'static str {
         Call::PropertyPhandle(_) => "property_phandle",
         Call::Finish => "finish",
     }
-}
-
-// A byte string as a word.
-fn spelled(bytes: &[u8]) -> String {
-    let mut out = String::new();
-    for &b in bytes {
-        match b {
-            0 => out.push('~'),
-            b'\\' | b'~' => out.push_str(&format!("\\x{b:02x}")),
-            33..=126 => out.push(b as char),
-            _ => out.push_str(&format!("\\x{b:02x}")),
-        }
-    }
-    out
-}
-
-// The word's byte string.
-fn meant(word: &str) -> Result<Vec<u8>, String> {
-    let (b, mut out, mut at) = (word.as_bytes(), Vec::new(), 0);
-    while at < b.len() {
-        match b[at] {
-            b'~' => out.push(0),
-            b'\\' => {
-                let digits = word.get(at + 2..at + 4).filter(|_| b.get(at + 1) == Some(&b'x'));
-                let byte = digits.and_then(|d| u8::from_str_radix(d, 16).ok());
-                out.push(byte.ok_or_else(|| format!("no byte: {word}"))?);
-                at += 3;
-            }
-            33..=126 => out.push(b[at]),
-            _ => return Err(format!("no byte string: {word}")),
-        }
-        at += 1;
-    }
-    Ok(out)
-}
-
-// A decimal number of at most 64 bits; an empty word is 0.
-fn number(word: &str) -> Result<u64, String> {
-    word.bytes()
-        .try_fold(0u64, |n, d| {
-            let digit = d.is_ascii_digit().then(|| u64::from(d - b'0'))?;
-            n.checked_mul(10)?.checked_add(digit)
-        })
-        .ok_or_else(|| format!("no number: {word}"))
 }
 
 fn numbers(words: &[&str]) -> Result<Vec<u64>, String> {
@@ -185,14 +142,6 @@ pub fn line(step: &Step) -> String {
         Step::Set(field, n) => format!("set {field} {n}"),
         Step::Quiet => "quiet".to_string(),
         Step::Remark(text) => text.clone(),
-    }
-}
-
-fn put<T: Copy>(into: &mut [T], at: u64, from: &[T]) {
-    for (k, &x) in from.iter().enumerate() {
-        if let Some(place) = usize::try_from(at).ok().and_then(|at| into.get_mut(at.checked_add(k)?)) {
-            *place = x;
-        }
     }
 }
 

@@ -3,8 +3,10 @@ mod beside;
 mod gen;
 mod list;
 mod model;
+mod shared;
 
 use list::Step;
+use shared::check;
 use std::collections::BTreeMap;
 use std::fmt::Write as _;
 use std::io::{self, Read, Write};
@@ -16,11 +18,6 @@ const USAGE: &str = "usage: oracle gen SEED [BYTES]   a random list of about BYT
        oracle gen corners        a fixed list of buffers that are just full and records with one fault
        oracle expect [COUNTS]    reads a list, writes what test_replay must write for it in quiet mode,
                                  and writes to the file COUNTS how often each call gave each answer";
-
-// The check value of bytes: 64-bit FNV-1a.
-fn check(bytes: impl Iterator<Item = u8>) -> u64 {
-    bytes.fold(14695981039346656037, |h, b| (h ^ b as u64).wrapping_mul(1099511628211))
-}
 
 // A report line of quiet mode.
 fn report(out: &mut String, found: model::Outcome, m: &model::Model) {
