@@ -5,12 +5,14 @@
 help:
 	@echo 'make demo                prove what a blob needs, build the blob of a pond station, and show it'
 	@echo 'make test                the merge gate; if all is well its last line is: N passed, 0 failed'
-	@echo 'make compare SEEDS=20    run test_replay and the original crate on 20 random lists and all short ones (default: 8)'
-	@echo 'make outside             let dtc and libfdt read finished blobs'
+	@echo 'make compare SEEDS=20    run test_replay and the original crate on 20 random lists and all short ones (default: 8);'
+	@echo '                         then test_reader and a model of the reading on as many lists of blobs'
+	@echo 'make outside             let dtc and libfdt read finished blobs, and compare the reader with them'
 	@echo 'make mutants             find the list that catches each wrong program: docs/COMPARISON.md (takes long)'
-	@echo 'make bench ROUNDS=41     time a build beside the original crate: docs/PERFORMANCE.md'
+	@echo 'make bench ROUNDS=41     time a build beside the original crate, and a reading beside libfdt: docs/PERFORMANCE.md'
 	@echo 'tools/fdt-write -h       write the blob of a call list'
-	@echo 'tools/fdt-show -h        show a blob'
+	@echo 'tools/fdt-read -h        print the tree of a blob, or what the reader reports'
+	@echo 'tools/fdt-show -h        show a blob: its header, and its tree or its bytes'
 	@echo 'tools/promises -h        check that everything that docs/PROMISES.md cites exists'
 	@echo 'tools/moved -h           list what changed between two git revisions'
 	@echo 'tools/check-time -h      print how long the gate takes, crate by crate'
@@ -29,10 +31,12 @@ steps:
 # SEEDS: how many random lists, or FIRST-LAST.
 compare:
 	@tools/compare $(SEEDS)
+	@tools/compare-reader $(SEEDS)
 
 # RUNS: how many random blobs.
 outside:
 	@tools/outside $(RUNS)
+	@tools/outside-reader $(RUNS)
 
 # ROUNDS: how many rounds. Both writers are built for this machine.
 bench:
