@@ -4,13 +4,15 @@ use fdt_format::FDT_BEGIN_NODE;
 use fdt_format::FDT_END;
 use fdt_format::FDT_END_NODE;
 use fdt_format::FDT_PROP;
+use fdt_format::Unreadable;
 use fdt_header::Header;
 use fdt_walk::Fault;
+use fdt_walk::Refusal;
 use text_words::out;
 use text_words::out::Out;
 
 // The causes, a row each. `#` stands for the cause's number, `$` for the same in hexadecimal, and `%` for the length of the blob.
-const CAUSES: [u8; 921] = *b"a header has 40 bytes, and the blob has %\n\
+const CAUSES: [u8; 955] = *b"a header has 40 bytes, and the blob has %\n\
     the magic number is 0x$, not 0xd00dfeed\n\
     the total size is #, and the blob has % bytes\n\
     the version is #, not 17\n\
@@ -22,9 +24,9 @@ const CAUSES: [u8; 921] = *b"a header has 40 bytes, and the blob has %\n\
     no pair of zeros ends the reservations inside the blob\n\
     the structure ends without the final word 9\n\
     word # is none of the tokens 1, 2, 3 and 9\n\
-    the node's name does not end inside the structure\n\
+    the node's name with its padding does not end inside the structure\n\
     no node is open that could end here\n\
-    the property does not end inside the structure\n\
+    the property with its padding does not end inside the structure\n\
     a property must be inside a node, before its child nodes\n\
     a node is still open at the final word 9\n\
     the structure goes on after the final word 9\n\
@@ -60,7 +62,7 @@ const NODE_NAME: usize = 12;
 
 const NO_NODE: usize = 13;
 
-const VALUE: usize = 14;
+const CUT_PROPERTY: usize = 14;
 
 const MISPLACED: usize = 15;
 
@@ -100,7 +102,7 @@ fn word(blob: &[u8], at: usize) -> u32 {
 }
 
 // Why areas are not good.
-fn areas(a: Areas, length: usize) -> Cause {
+fn areas_cause(a: Areas, length: usize) -> Cause {
     if a.reservations % 8 != 0 {
         return with(RESERVATIONS_PLACE, a.reservations as u64);
     }
@@ -114,7 +116,7 @@ fn areas(a: Areas, length: usize) -> Cause {
 }
 
 // Why a header is not good.
-fn header(blob: &[u8]) -> Cause {
+fn header_cause(blob: &[u8]) -> Cause {
     if blob.len() < Header::SIZE {
         return alone(SHORT);
     }
@@ -134,7 +136,7 @@ fn header(blob: &[u8]) -> Cause {
     if compatible != Header::LAST_COMP_VERSION {
         return with(COMPATIBLE, compatible as u64);
     }
-    areas(fdt_read_header::areas_of(blob), blob.len())
+    areas_cause(fdt_read_header::areas_of(blob), blob.len())
 }
 
 // Whether a whole property is at a place before the end of the structure.
@@ -148,8 +150,17 @@ fn whole(blob: &[u8], at: usize, end: usize) -> bool {
     fdt_read_token::property_size(blob, at, end) != 0
 }
 
+// Where the structure of a blob ends; 0 if it has no header.
+fn structure_end(blob: &[u8]) -> usize {
+    if blob.len() < Header::SIZE {
+        return 0;
+    }
+    let a = fdt_read_header::areas_of(blob);
+    a.structure_end
+}
+
 // Why the structure is not good at a token.
-fn token(blob: &[u8], at: usize, end: usize) -> Cause {
+fn token_cause(blob: &[u8], at: usize, end: usize) -> Cause {
     if end < at || end - at < 4 {
         return alone(NO_FINAL);
     }
@@ -160,30 +171,31 @@ fn token(blob: &[u8], at: usize, end: usize) -> Cause {
         FDT_PROP => alone(if whole(blob, at, end) {
             MISPLACED
         } else {
-            VALUE
+            CUT_PROPERTY
         }),
         FDT_END => alone(if end - at == 4 { NODE_OPEN } else { GOES_ON }),
         _ => with(UNKNOWN, w as u64),
     }
 }
 
-// Why a blob is refused with a number, for what is at a place.
-fn found(blob: &[u8], number: u32, place: usize) -> Cause {
-    match number {
-        21 => header(blob),
-        22 => alone(RESERVATIONS),
-        23 => {
-            if blob.len() < Header::SIZE {
-                return alone(SHORT);
-            }
-            let a = fdt_read_header::areas_of(blob);
-            token(blob, place, a.structure_end)
-        }
-        24 => with(
+// Why the reading refuses a blob, for what is at a place.
+fn reading_cause(blob: &[u8], reason: Unreadable, place: usize) -> Cause {
+    match reason {
+        Unreadable::Reservations => alone(RESERVATIONS),
+        Unreadable::Structure => token_cause(blob, place, structure_end(blob)),
+        Unreadable::NameOffset => with(
             NAME_OFFSET,
             word(blob, std::num::wrapping_add_usize(place, 8)) as u64,
         ),
-        _ => alone(DEPTH),
+    }
+}
+
+// Why a blob is refused, for what is at a place.
+fn cause_of(blob: &[u8], refusal: Refusal, place: usize) -> Cause {
+    match refusal {
+        Refusal::Header => header_cause(blob),
+        Refusal::Unreadable(reason) => reading_cause(blob, reason, place),
+        Refusal::Depth => alone(DEPTH),
     }
 }
 
@@ -224,7 +236,7 @@ pub fn refused(blob: &[u8], fault: Fault) {
     let refusal = fault.refusal;
     let number = fdt_walk::number(refusal);
     let place = fault.place;
-    let c = found(blob, number, place);
+    let c = cause_of(blob, refusal, place);
     let o = sentence(heading(number as u64, place as u64), c, blob.len() as u64);
     out::flush(out::byte(o, b'\n'));
 }

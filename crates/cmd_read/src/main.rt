@@ -9,6 +9,9 @@ use fdt_reader::Surveyed;
 use text_words::out;
 use text_words::out::Out;
 
+// The answer for a list that is too short, which no blob of 1,048,576 bytes gets.
+const SHORT_LIST: u32 = 30;
+
 // Whether the entries are asked for.
 fn entries_asked() -> bool {
     let mut word = [0; 8];
@@ -41,6 +44,10 @@ fn read(blob: &[u8], as_entries: bool) {
     let answer = fdt_reader::read(blob, &mut list);
     if as_entries {
         told(entries::all(&list, answer));
+    }
+    if fdt_reader::number(answer) == SHORT_LIST {
+        io::write_all(libc::STDERR_FILENO, b"the blob has too many entries\n");
+        return;
     }
     shown(blob, fdt_reader::survey(blob), &list, as_entries);
 }

@@ -9,7 +9,8 @@ pub fn blob() -> [u8; 1_048_577]
     [0; 1_048_577]
 }
 
-// The list of the reader. Two entries take at least 12 bytes, so no blob has more than 174,762.
+// The list of the reader. A node takes at least 12 bytes for its begin and its end, and a property 12, so no blob has more than
+// 174,762 entries.
 pub fn numbers() -> [u32; 699_048]
     ensures { λ r. ⌜ 699048 ≡ length r ⌝ }
 {

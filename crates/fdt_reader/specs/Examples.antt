@@ -5,13 +5,15 @@ use Prim.Native.Nat.{ℕ, zero, suc, _+_, _-_}
 use lib.ListN.{set, take, replicate}
 use Rattle.fdt_format.specs.Foreign.{altered, only, stringA, nested, ninetyTwo, tails}
 use Rattle.fdt_reader.specs.declared.Values.{Values}
-use Rattle.fdt_reader.specs.Reader.{numberOf, faultPlace, noValues, valuesOf, surveyOf, answerOf, listAfter}
+use Rattle.fdt_reader.specs.Reader.{numberOf, surveyNumber, faultPlace, noValues, valuesOf, surveyOf, answerOf, listAfter}
 
--- what is said of a blob and a list: the number and the values of the answer, the list afterwards, and the place of the first fault, or 0
+-- what is said of a blob and a list: the number and the values of the answer, and the list afterwards; the number of the survey,
+-- and the place of the first fault, or 0
 pub record Said : Type 0 where
   pub number : ℕ
   pub values : Values
   pub list : List ℕ
+  pub surveyed : ℕ
   pub fault : ℕ
 
 -- a blob, a list, and what is expected of them
@@ -21,7 +23,13 @@ pub data Example : Type 0 where
 -- what the reader and the survey say
 unfoldable pub given : Example → Said
 given (example b list said) =
-    record { number = numberOf (answerOf b list); values = valuesOf (answerOf b list); list = listAfter b list; fault = faultPlace (surveyOf b) }
+    record {
+      number = numberOf (answerOf b list);
+      values = valuesOf (answerOf b list);
+      list = listAfter b list;
+      surveyed = surveyNumber (surveyOf b);
+      fault = faultPlace (surveyOf b);
+    }
 
 -- what is expected
 unfoldable pub expected : Example → Said
@@ -29,15 +37,15 @@ expected (example b list said) = said
 
 -- accepted: the values, and the list afterwards
 unfoldable pub accepts : List ℕ → List ℕ → Values → List ℕ → Example
-accepts b list values after = example b list (record { number = 0; values = values; list = after; fault = 0 })
+accepts b list values after = example b list (record { number = 0; values = values; list = after; surveyed = 0; fault = 0 })
 
 -- the list is too short
 unfoldable pub short : List ℕ → List ℕ → Example
-short b list = example b list (record { number = 30; values = noValues; list = list; fault = 0 })
+short b list = example b list (record { number = 30; values = noValues; list = list; surveyed = 0; fault = 0 })
 
 -- refused: the number, and the place of the fault
 unfoldable pub refuses : List ℕ → List ℕ → ℕ → ℕ → Example
-refuses b list number place = example b list (record { number = number; values = noValues; list = list; fault = place })
+refuses b list number place = example b list (record { number = number; values = noValues; list = list; surveyed = number; fault = place })
 
 -- a list of n numbers
 unfoldable pub room : ℕ → List ℕ

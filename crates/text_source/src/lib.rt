@@ -99,7 +99,7 @@ fn zero(o: Out, next: u8) -> Out {
     short
 }
 
-// A byte of a string, before another byte.
+// A byte of a string, before another byte. Of a value that is strings, no byte gets to the last line.
 fn character(o: Out, b: u8, next: u8) -> Out {
     if b == 0 {
         return zero(o, next);
@@ -114,7 +114,7 @@ fn character(o: Out, b: u8, next: u8) -> Out {
     escaped_hex(o, b)
 }
 
-// Strings, in quotes, without the last 0.
+// Strings, in quotes, without the last 0. The first test of the loop keeps the sum from wrapping.
 fn text(mut o: Out, value: &[u8]) -> Out {
     o = out::byte(o, b'"');
     let mut i = 0;

@@ -15,17 +15,17 @@ pub fn room() -> [u8; 1_048_576]
 
 // Reads standard input to its end, and returns how many bytes it has. If it cannot be read or fills the buffer, the message for
 // this is written, and the whole length is returned.
-pub fn read(out: &mut [u8], unreadable: &[u8], too_long: &[u8]) -> usize
-    ensures { λ r. ⌜ Counts r (now (out .exit)) ⌝ }
+pub fn read(buffer: &mut [u8], unreadable: &[u8], too_long: &[u8]) -> usize
+    ensures { λ r. ⌜ Counts r (now (buffer .exit)) ⌝ }
 {
     let mut n = 0;
-    while n < out.len() {
-        let got = libc::read(STDIN_FILENO, &mut out[n..]);
+    while n < buffer.len() {
+        let got = libc::read(STDIN_FILENO, &mut buffer[n..]);
         if got < 0 {
             io::write_all(STDERR_FILENO, unreadable);
-            return out.len();
+            return buffer.len();
         }
-        let more = io::count(got, &out[n..]);
+        let more = io::count(got, &buffer[n..]);
         if more == 0 {
             return n;
         }

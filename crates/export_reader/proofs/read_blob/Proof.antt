@@ -8,4 +8,4 @@ read-blob-spec =
     tie.close
     (tie.spec
     (λ c κs. search needs) (λ c κs. search needs) (λ c. search needs) (λ c κs. search needs) (λ c. search needs)
-    (λ c. record { number = cc; list = cc; told = cc }))
+    (λ c. record { number = cc; list = cc; values = cc }))

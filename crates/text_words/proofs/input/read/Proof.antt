@@ -9,10 +9,10 @@ use Rattle.text_words.proofs.input.read.Statement.{statement}
 use Rattle.text_words.proofs.input.read.Tie as tie
 
 abbrev Inv-loop : tie.InvT-loop
-Inv-loop out₀ unreadable too-long n₀ out n = (n ≤ length out₀) × (length out ≡ length out₀)
+Inv-loop buffer₀ unreadable too-long n₀ buffer n = (n ≤ length buffer₀) × (length buffer ≡ length buffer₀)
 
 abbrev μ-loop : tie.MeasureT-loop
-μ-loop out₀ unreadable too-long n₀ out n = length out₀ - n
+μ-loop buffer₀ unreadable too-long n₀ buffer n = length buffer₀ - n
 
 pub read-spec : {M : Type 1} → statement M
 read-spec =
