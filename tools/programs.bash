@@ -31,7 +31,10 @@ find_program() { # NAME
 
 # Has standard input come from a file, or stay as it is for -.
 read_from() { # FILE
-    [[ $1 == - ]] || { [[ ! -d $1 ]] && exec <"$1"; } 2>/dev/null || end 1 "$1 cannot be read"
+    [[ $1 != - ]] || return 0
+    [[ ! -d $1 ]] || end 1 "$1 is a folder"
+    [[ -e $1 ]] || end 1 "$1 does not exist"
+    { exec <"$1"; } 2>/dev/null || end 1 "$1 cannot be read"
 }
 
 # Raises the limit of the stack where it is too low. The emulator takes no limit to mean 8192 KB, so one is set then too.
