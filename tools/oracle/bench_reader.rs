@@ -210,7 +210,7 @@ fn main() {
     measure("nodes without properties, 64 KiB", &bare(64 * kib), rounds);
     measure("reservations, 64 KiB", &reserved(64 * kib), rounds);
     println!("\nas the blob grows (typical):");
-    for size in [64, 128, 256, 512, 1024] {
+    for size in [128, 256, 512] {
         measure(&format!("{size} KiB"), &typical(size * kib), rounds);
     }
 }

@@ -147,7 +147,7 @@ impl Body {
 }
 
 // The parts of a blob and how they lie: the order of reservations (0), structure (1) and strings (2), and how many
-// bytes stand in front of each and behind the last.
+// bytes stand in front of each and after the last.
 #[derive(Clone)]
 struct Parts {
     boot: u32,
@@ -217,12 +217,12 @@ fn begun() -> Body {
 }
 
 // The examples of documents 01 and 02 and of the table of the reader.
-fn of_the_papers(l: &mut Lines) {
+fn of_the_documents(l: &mut Lines) {
     let b = ninety_two();
     let endless = with(&b, RESERVATIONS, 80);
     l.case("document 01's blob of 60 bytes", &sixty(), 0);
     for room in [12, 15, 11, 13, 14, 16, 400, 8, 7, 4, 1, 0] {
-        l.case("document 01's blob of 92 bytes", &b, room);
+        l.case(&format!("document 01's blob of 92 bytes, a list of {room} numbers"), &b, room);
     }
     l.case("depth 64", &plain(chain(64, Body::new()).last()), 512);
     l.case("depth 65", &plain(chain(65, Body::new()).last()), 520);
@@ -328,11 +328,11 @@ fn disorder(l: &mut Lines) {
         ("an end too many", open().end().end().last()),
         ("a final word inside", open().last()),
         ("a final word inside and early", open().last().end().last()),
-        ("words behind the final one", open().end().last().word(0)),
+        ("words after the final one", open().end().last().word(0)),
         ("two final words", b().last().last()),
         ("a property first", b().property(0, b"").last()),
         ("a property first with no name", b().property(9, b"").last()),
-        ("a property behind a top node", open().end().property(0, b"").last()),
+        ("a property after a top node", open().end().property(0, b"").last()),
         ("a property after a child", open().begin(b"a").end().property(0, b"x").end().last()),
         ("such a property with its value outside", open().begin(b"a").end().word(3).word(9).word(0)),
     ] {
@@ -422,10 +422,10 @@ fn largest(l: &mut Lines) {
     l.text.push_str("list 65534 65540\nlist 65536 65540\nlist 5 3\nlist 5 5\nread 13\nlist 11 99\n\n# the end\n");
 }
 
-// A fixed list: what the papers name, every cause and every corner.
+// A fixed list: what the documents name, every cause and every corner.
 pub fn examples() -> String {
     let mut l = Lines::new();
-    for some in [of_the_papers, headers, endless, disorder, outside, no_names, accepted, largest] {
+    for some in [of_the_documents, headers, endless, disorder, outside, no_names, accepted, largest] {
         some(&mut l);
     }
     l.text
@@ -506,11 +506,11 @@ pub fn bytes(part: usize) -> String {
 // The words of short structures.
 const SET: [u32; 7] = [0, 1, 2, 3, 4, 9, 0x6100_0000];
 
-// A structure of so many words of the set, by its number, behind some words and in front of others.
-fn short(front: &[u32], length: u32, number: usize, behind: &[u32]) -> Body {
+// A structure of so many words of the set, by its number, after some words and in front of others.
+fn short(front: &[u32], length: u32, number: usize, after: &[u32]) -> Body {
     let inner = (0..length).rev().map(|k| SET[number / 7usize.pow(k) % 7]);
     Body {
-        bytes: words_of(&front.iter().copied().chain(inner).chain(behind.iter().copied()).collect::<Vec<_>>()),
+        bytes: words_of(&front.iter().copied().chain(inner).chain(after.iter().copied()).collect::<Vec<_>>()),
         pad: 0,
     }
 }
@@ -519,11 +519,11 @@ fn short(front: &[u32], length: u32, number: usize, behind: &[u32]) -> Body {
 pub fn words(part: usize) -> String {
     const BLOBS: usize = 35_000;
     let (mut l, mut k) = (Lines::new(), 0);
-    for (front, behind, room) in [(&[][..], &[][..], 8), (&[1, 0], &[2, 9], 16)] {
+    for (front, after, room) in [(&[][..], &[][..], 8), (&[1, 0], &[2, 9], 16)] {
         for length in 0..=6 {
             for number in 0..7usize.pow(length) {
                 if k / BLOBS == part {
-                    let mut parts = parts(short(front, length, number, behind), b"a\0b");
+                    let mut parts = parts(short(front, length, number, after), b"a\0b");
                     parts.order = [0, 2, 1];
                     l.read(&parts.blob(), room);
                 }

@@ -16,7 +16,7 @@ BIN = os.path.join(TOP, "target", "bin")
 PROGRAM = os.path.join(BIN, "test_replay")
 # The lines that begin the sample in the program's own stdin; tools/oracle/sample writes it.
 SAMPLE = b"quiet\n# The sample that tools/oracle/sample wrote, by: "
-# A program that has not ended after so many seconds never will.
+# Seconds after which a program is stopped.
 PATIENCE = 300
 
 
@@ -45,6 +45,12 @@ def kit():
     """The folder of the Rattle kit, or nothing."""
     rt = shutil.which("rt")
     return os.environ.get("RATTLE_HOME") or (rt and os.path.dirname(os.path.dirname(os.path.realpath(rt))))
+
+
+def must_be_there(path, name):
+    """Trouble if a program is not a file that can be run."""
+    if not os.path.isfile(path) or not os.access(path, os.X_OK):
+        raise Trouble(3, f"{path} is not there (rt check {name} makes it)")
 
 
 def runner(program):
@@ -88,7 +94,7 @@ class Kind:
             yield f"seed-{seed}", [judge, "gen", str(seed)]
 
     def first_difference(self, name, given, expected, found):
-        """Where two outputs part, with the line of the list that they tell of."""
+        """Where two outputs first differ, with the line of the list that they tell of."""
         want, got = expected.split(b"\n"), found.split(b"\n")
         k = next((k for k, (a, b) in enumerate(zip(want, got)) if a != b), min(len(want), len(got)))
         told = [(n, line) for n, line in enumerate(given.split(b"\n"), 1) if re.match(self.told, line)]
@@ -115,7 +121,10 @@ class Kind:
 
     def compared(self, o, judge):
         """Compares all lists: the sum of their counts, and how many lists there were."""
-        os.makedirs(o.keep, exist_ok=True)
+        try:
+            os.makedirs(o.keep, exist_ok=True)
+        except OSError as error:
+            raise Trouble(1, f"{o.keep} cannot be made: {error.strerror}") from None
         total, number, program = collections.Counter(), 0, runner(o.program)
         with concurrent.futures.ThreadPoolExecutor(max(1, o.jobs)) as pool:
             waiting = [pool.submit(self.compare, name, command, judge, program, o.keep) for name, command in self.lists(judge, o.seeds, not o.no_short)]
@@ -135,7 +144,7 @@ class Kind:
         parser.add_argument("--program", default=os.path.join(BIN, self.program), metavar="FILE", help=f"the program to compare (default: target/bin/{self.program})")
         parser.add_argument("--keep", default=os.path.join(TOP, folder), metavar="FOLDER", help=f"where to keep lists that differ (default: {folder})")
         parser.add_argument("--jobs", type=int, default=min(2, os.cpu_count() or 1), metavar="N", help="how many lists to run at a time (default: 2)")
-        parser.add_argument("--no-short", action="store_true", help="only the random lists, without the fixed ones")
+        parser.add_argument("--no-short", action="store_true", help="only the random lists, without the fixed ones; it needs --any-counts, because some cases occur only in the fixed lists")
         parser.add_argument("--any-counts", action="store_true", help="do not check or print what occurred")
         return parser.parse_args(words)
 
@@ -143,8 +152,7 @@ class Kind:
         """Runs the tool, and says how it went: the exit status."""
         began = time.monotonic()
         try:
-            if not os.access(o.program, os.X_OK):
-                raise Trouble(3, f"{o.program} is not there (rt check {self.program} makes it)")
+            must_be_there(o.program, self.program)
             total, number = compared(o)
             print(f"tools/{self.tool}: {number} lists, {verdict(total, o.any_counts)}: all the same ({time.monotonic() - began:.0f} s)")
             return 0
@@ -190,8 +198,11 @@ def save(path, text):
 
 
 def seeds_of(word):
-    """A count of seeds from 1 on, or FIRST-LAST."""
+    """A count of seeds from 1 on, or FIRST-LAST: at least one seed."""
     match = re.fullmatch(r"(\d+)(?:-(\d+))?", word)
     if not match:
         raise argparse.ArgumentTypeError(f"{word} is no count of seeds and no FIRST-LAST")
-    return range(1, int(match[1]) + 1) if match[2] is None else range(int(match[1]), int(match[2]) + 1)
+    seeds = range(1, int(match[1]) + 1) if match[2] is None else range(int(match[1]), int(match[2]) + 1)
+    if not seeds:
+        raise argparse.ArgumentTypeError(f"{word} names no seed")
+    return seeds

@@ -1,14 +1,19 @@
-# What tools/test-fdt-write and tools/test-fdt-read share: blobs, laid out from document 01.
+# What tools/test-fdt-write, tools/test-fdt-read and tools/outside-reader share: blobs, laid out from document 01.
 
 
-def word(*numbers):
-    """Numbers of 4 bytes."""
-    return b"".join(n.to_bytes(4, "big") for n in numbers)
+def word(*parts):
+    """Numbers of 4 bytes, each modulo 2^32, and bytes as they are."""
+    return b"".join(part if isinstance(part, bytes) else (part % (1 << 32)).to_bytes(4, "big") for part in parts)
 
 
-def padded(data):
-    """Bytes, and zeros to a multiple of 4."""
-    return data + bytes(-len(data) % 4)
+def padded(data, r=None):
+    """Bytes, and padding to a multiple of 4: zeros, or any bytes where a source of them is given."""
+    return data + (r.randbytes(-len(data) % 4) if r else bytes(-len(data) % 4))
+
+
+def reserved(pairs):
+    """Reservations as bytes, with the pair of zeros."""
+    return b"".join(n.to_bytes(8, "big") for pair in [*pairs, (0, 0)] for n in pair)
 
 
 class Blob:
@@ -41,10 +46,9 @@ class Blob:
         return laid_out(self.body + word(9), self.names, self.pairs, self.boot)
 
 
-def laid_out(structure, strings=b"", pairs=(), boot=0):
-    """A blob of any structure and strings."""
-    reservations = b"".join(n.to_bytes(8, "big") for pair in pairs for n in pair) + bytes(16)
-    start = 40 + len(reservations)
+def laid_out(structure, strings=b"", pairs=(), boot=0, version=17, last=16):
+    """A blob of any structure and strings, in the layout of the writer."""
+    start = 40 + len(reserved(pairs))
     end = start + len(structure)
-    return word(0xD00DFEED, end + len(strings), start, end, 40, 17, 16, boot, len(strings),
-                len(structure)) + reservations + structure + strings
+    return word(0xD00DFEED, end + len(strings), start, end, 40, version, last, boot, len(strings), len(structure),
+                reserved(pairs), structure, strings)

@@ -1,30 +1,8 @@
 # Blobs for tools/outside-reader: good ones in every layout that document 01's reading takes, one by hand for each rule of
 # outside_rules.py, and altered ones.
 
+from laid_out import laid_out as plain, padded, reserved, word as words
 from readers import LETTERS, NODE, PROPERTY, some
-
-
-def words(*parts):
-    """Numbers as words, and bytes as they are."""
-    return b"".join(part if isinstance(part, bytes) else (part % (1 << 32)).to_bytes(4, "big") for part in parts)
-
-
-def padded(data, r=None):
-    """Bytes and their padding: zeros, or any bytes where a source of them is given."""
-    return data + (r.randbytes(-len(data) % 4) if r else bytes(-len(data) % 4))
-
-
-def pairs(reservations):
-    """Reservations as bytes, with the pair of zeros."""
-    return b"".join(n.to_bytes(8, "big") for pair in [*reservations, (0, 0)] for n in pair)
-
-
-def plain(structure, strings=b"", reservations=(), boot=0, version=17, last=16):
-    """A blob in the layout that the writer makes."""
-    start = 40 + len(pairs(reservations))
-    end = start + len(structure)
-    return words(0xD00DFEED, end + len(strings), start, end, 40, version, last, boot, len(strings), len(structure),
-                 pairs(reservations), structure, strings)
 
 
 def set_word(blob, index, value):
@@ -65,8 +43,8 @@ def headers_by_hand():
     yield "another last compatible version", plain(root(), last=17), 21, "reads", "reads"
     yield "another last compatible version", plain(root(), last=2), 21, "reads", "reads"
     yield "another last compatible version", plain(root(), last=18), 21, "refuses", "reads"
-    yield "reservations at no multiple of 8", words(0xD00DFEED, 76, 60, 76, 44, 17, 16, 0, 0, 16, 0, pairs(()), root()), 21, "reads", "reads"
-    yield "a structure at no multiple of 4", words(0xD00DFEED, 73, 57, 73, 40, 17, 16, 0, 0, 16, pairs(()), b"\0", root()), 21, "reads", "reads"
+    yield "reservations at no multiple of 8", words(0xD00DFEED, 76, 60, 76, 44, 17, 16, 0, 0, 16, 0, reserved(()), root()), 21, "reads", "reads"
+    yield "a structure at no multiple of 4", words(0xD00DFEED, 73, 57, 73, 40, 17, 16, 0, 0, 16, reserved(()), b"\0", root()), 21, "reads", "reads"
     yield None, set_word(empty, 0, 0xD00DFEEE), 21, "refuses", "refuses"
     yield None, empty[:-1], 21, "refuses", "refuses"
     yield None, set_word(empty, 9, 20), 21, "refuses", "refuses"
@@ -79,7 +57,7 @@ def headers_by_hand():
     yield None, set_word(empty, 4, 64), 22, "refuses", "refuses"
     yield None, set_word(empty, 4, 4096), 22, "refuses", "refuses"
     yield "reservations that end at a size of 0", set_word(empty, 11, 5), 22, "reads", "reads"
-    yield "a reservation of size 0", plain(root(), reservations=[(5, 0), (6, 1)]), 0, "differs", "differs"
+    yield "a reservation of size 0", plain(root(), pairs=[(5, 0), (6, 1)]), 0, "differs", "differs"
 
 
 def structures_by_hand():
@@ -143,7 +121,7 @@ def trees_by_hand():
 
 
 def endless_by_hand():
-    """Blobs on which dtc aborts or runs on for ever; no altered blob is made of them."""
+    """Blobs on which dtc aborts or never ends; no altered blob is made of them."""
     yield "an interrupt-parent that is no cell", with_properties((b"interrupts", b""), (b"interrupt-parent", b"")), 0, "reads", "refuses"
     yield "#clock-cells of 2^32 - 1", with_properties((b"phandle", words(1)), (b"#clock-cells", words(-1)), (b"clocks", words(1))), 0, "reads", "refuses"
 
@@ -222,7 +200,7 @@ def all_names(nodes):
 def laid_out(r, boot, reservations, tops):
     """A blob of a description: areas in any order, any bytes between them, and a strings area that may lie over others."""
     strings, places = the_strings(r, list(all_names(tops)))
-    lengths = {"reservations": len(pairs(reservations)), "structure": len(structure_of(None, tops, places)), "strings": len(strings)}
+    lengths = {"reservations": len(reserved(reservations)), "structure": len(structure_of(None, tops, places)), "strings": len(strings)}
     order, starts, at = list(lengths), {}, 40
     if r.random() < 0.7:
         r.shuffle(order)
@@ -235,7 +213,7 @@ def laid_out(r, boot, reservations, tops):
     high = r.choice([starts["strings"] + len(strings)] * 3 + [total])
     structure = structure_of(r, tops, {name: at + starts["strings"] - low for name, at in places.items()})
     blob = bytearray(r.randbytes(total))
-    for area, data in (("reservations", pairs(reservations)), ("structure", structure), ("strings", strings)):
+    for area, data in (("reservations", reserved(reservations)), ("structure", structure), ("strings", strings)):
         blob[starts[area]:starts[area] + len(data)] = data
     blob[:40] = words(0xD00DFEED, total, starts["structure"], low, starts["reservations"], 17, 16, boot, high - low, len(structure))
     return bytes(blob)

@@ -1,4 +1,4 @@
-# Where the reader and dtc or libfdt of the pinned version part, by rules: each is judged on the blob alone, read here by
+# Where the reader and dtc or libfdt of the pinned version differ, by rules: each is judged on the blob alone, read here by
 # document 01 for itself. docs/DIFFERENCES.md has the table.
 import re
 
@@ -62,7 +62,7 @@ class Reading:
         return at is not None
 
     def token(self, at):
-        """Reads one token: the place behind it, or nothing where it has a fault."""
+        """Reads one token: the place after it, or nothing where it has a fault."""
         if at + 4 > self.end:
             return self.fault(23, at, "a structure longer than its size")
         kind = self.word(at)
@@ -79,8 +79,8 @@ class Reading:
     def begin(self, at):
         """A node begins."""
         zero = self.blob.find(0, at + 4, self.end)
-        behind = zero + 4 - zero % 4
-        if zero < 0 or behind > self.end:
+        after = zero + 4 - zero % 4
+        if zero < 0 or after > self.end:
             return self.fault(23, at, "a structure longer than its size")
         if len(self.around) == DEEPEST:
             return self.fault(25, at, "depth 65")
@@ -88,16 +88,16 @@ class Reading:
         (self.around[-1][2] if self.around else self.tops).append(node)
         self.around.append(node)
         self.ended = False
-        return behind
+        return after
 
     def property(self, at):
         """A property of the open node."""
         length, value = self.word(at + 4), at + 12
-        behind = value + length + -length % 4
+        after = value + length + -length % 4
         wraps = value <= self.end and length > 0xFFFFFFF8
         late = self.ended and self.around
-        if behind > self.end or late or not self.around:
-            return self.fault(23, at, behind > self.end and "a structure longer than its size", wraps and "a value length that wraps",
+        if after > self.end or late or not self.around:
+            return self.fault(23, at, after > self.end and "a structure longer than its size", wraps and "a value length that wraps",
                               late and "a property after a child")
         strings, size = self.header["strings offset"], self.header["strings size"]
         zero = self.blob.find(0, strings + self.word(at + 8), strings + size)
@@ -105,7 +105,7 @@ class Reading:
             return self.fault(24, at)
         name = self.blob[strings + self.word(at + 8):zero].decode("latin-1")
         self.around[-1][1].append([name, self.blob[value:value + length].hex()])
-        return behind
+        return after
 
     def nodes(self):
         """All nodes in their order."""
@@ -174,7 +174,7 @@ WE_REFUSE, THEY_REFUSE, THEY_REPORT = "we refuse", "they refuse", "they report s
 
 
 class Rule:
-    """A way to part: who refuses, or that the tools report something else; the tools; and when it is so."""
+    """A way to differ: who refuses, or that the tools report something else; the tools; and when it is so."""
 
     def __init__(self, name, kind, tools, says, holds=None):
         self.name, self.kind, self.tools, self.says = name, kind, tools.split(), says
@@ -218,7 +218,7 @@ RULES = [
     Rule("a wrong phandle", THEY_REFUSE, "dtc", "we and libfdt read it; dtc refuses: explicit_phandles", on_nodes(phandle_is_wrong)),
     Rule("one phandle in two nodes", THEY_REFUSE, "dtc", "we and libfdt read it; dtc refuses: explicit_phandles", phandle_twice),
     Rule("an interrupt-parent that is no cell", THEY_REFUSE, "dtc", "we and libfdt read it; dtc aborts", on_nodes(parent_is_no_cell)),
-    Rule("#clock-cells of 2^32 - 1", THEY_REFUSE, "dtc", "we and libfdt read it; dtc runs on for ever", cells_wrap),
+    Rule("#clock-cells of 2^32 - 1", THEY_REFUSE, "dtc", "we and libfdt read it; dtc never ends", cells_wrap),
     Rule("a reservation of size 0", THEY_REPORT, "libfdt dtc", "we report it and those after it; to them it ends the list",
          lambda reading: any(size == 0 for _, size in reading.reservations)),
     Rule("a property called name", THEY_REPORT, "dtc", "we and libfdt report it; dtc omits it where it is the node's name",

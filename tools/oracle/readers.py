@@ -12,9 +12,9 @@ import sys
 
 from common import Trouble
 
-# So many seconds each tool has for a blob, and so many of the processor; dtc 1.6.1 can run on for ever on a broken one.
+# Limits for each blob: seconds of time, and of processor time. On some blobs dtc 1.6.1 never ends.
 PATIENCE, PROCESSOR = 10, 1
-# The version whose conduct docs/DIFFERENCES.md has.
+# The version whose behaviour docs/DIFFERENCES.md has.
 PINNED = "1.6.1"
 
 
