@@ -2,12 +2,12 @@
 use Prim.Native.Nat.{ℕ, suc, _+_, _<_}
 use native.Mathlib.Numerals.{add-one}
 use mathlib.Core.Path.{_≡_, refl, ap, _∙_}
-use mathlib.Core.Bool.{Bool, true, false, _&&_, _||_, and-eq-true-iff, and-false, or-false, or-true}
+use mathlib.Core.Bool.{Bool, true, false, _&&_, _||_, and-eq-true-iff, and-assoc, and-false, and-true, or-false, or-true}
 use mathlib.Core.List.{List, [], _∷_, _++_}
 use mathlib.Core.Logic.{_⊎_, inl, inr, _↔_}
 use lib.Dec.{leb, leb·zero, leb·suc-zero, leb·suc-suc, eqb·suc-zero}
-use lib.ListN.{length, drop, getD}
-use lib.Seq.{drop-cons}
+use lib.ListN.{length, take, getD}
+use lib.Seq.{take-suc}
 use Rattle.fdt_names.specs.Grammar.{Grammar, empty, fromTo, _then_, _or_, all, inTwo, matches}
 
 -- s in two parts: the first passes p, and the rest passes q
@@ -63,13 +63,20 @@ pub and-swap : (c a d : Bool) → (a && (c && d)) ≡ (c && (a && d))
 and-swap true a d = refl
 and-swap false a d = and-false a
 
--- one turn of a loop over every byte
-pub all-next :
-    (class : ℕ → Bool) (s : List ℕ) (i : ℕ) →
-    i < length s →
-    all class (drop i s) ≡ (class (getD s i 0) && all class (drop (i + 1) s))
+-- one more byte at the end is one more test
+all-last : (class : ℕ → Bool) (s : List ℕ) (b : ℕ) → all class (s ++ b ∷ []) ≡ (all class s && class b)
 unfolding all
-all-next class s i h = rw (drop-cons s i 0 h, add-one)
+all-last class [] b = and-true (class b)
+all-last class (x ∷ s) b = rw (all-last class s b, and-assoc)
+
+-- one turn of a loop over every byte: those before i, then the byte at i
+pub all-next :
+    (class : ℕ → Bool) (s : List ℕ) (i : ℕ) {good next : Bool} →
+    i < length s →
+    good ≡ all class (take i s) →
+    next ≡ class (getD s i 0) →
+    (good && next) ≡ all class (take (i + 1) s)
+all-next class s i h e f = rw (add-one, take-suc s i 0 h, all-last, e, f)
 
 -- bytes of a class and then g
 module _ (class : ℕ → Bool) (g : Grammar) where

@@ -1,37 +1,32 @@
--- Laws of `specs/Names.antt`: `bytes::scan::find` decides `oneOf`, and a node name is tested by the parts before and after its first @.
+-- Laws of `specs/Names.antt`: a loop decides `oneOf`, and a node name is tested by the parts before and after its first @.
 use Prim.Native.Nat.{ℕ, zero, suc, _+_, _-_, _<_}
-use native.Mathlib.Nat.{zero-add}
 use native.Mathlib.Numerals.{add-one, one-add}
 use native.Mathlib.Omega.{arith}
 use mathlib.Core.Path.{_≡_, refl, sym, _∙_}
-use mathlib.Core.Bool.{Bool, true, false, not, _&&_, _||_, or-false, and-assoc}
-use mathlib.Core.List.{List, [], _∷_}
-use lib.Dec.{eqb, leb, ltb, leb·zero, leb·suc-zero, leb·suc-suc}
+use mathlib.Core.Bool.{Bool, true, false, not, _&&_, _||_, or-false, or-assoc, and-assoc}
+use mathlib.Core.List.{List, [], _∷_, _++_}
+use lib.Dec.{eqb, leb, leb·zero, leb·suc-zero, leb·suc-suc}
 use lib.ListN.{length, getD, take, drop}
-use lib.Seq.{take-length}
+use lib.Seq.{take-length, take-suc}
 use borrow.Author.Tests.{eqb-true}
 use Rattle.bytes.specs.Bytes.{indexAfter, indexOf, slice}
 use Rattle.fdt_names.specs.Grammar.{Grammar, empty, fromTo, any, _then_, _or_, all, inTwo, matches}
 use Rattle.fdt_names.specs.Names.{is, oneOf, letter, digit, nameByte, nodeByte, nodeName, unitAddress, hasZero}
 use Rattle.fdt_names.proofs.Grammar.{and-swap, none-then, more-then, one-then}
 
-index-after : (t : Bool) (k n : ℕ) → ltb (indexAfter t k) (suc n) ≡ (t || ltb k n)
-unfolding indexAfter
-index-after true k n = leb·suc-suc 0 n ∙ leb·zero n
-index-after false k n = leb·suc-suc (suc k) n
+-- one more byte at the end is one more that b may be
+one-of-last : (s : List ℕ) (one b : ℕ) → oneOf (s ++ one ∷ []) b ≡ (oneOf s b || eqb one b)
+unfolding oneOf
+one-of-last [] one b = or-false (eqb one b)
+one-of-last (x ∷ s) one b = rw (one-of-last s one b, or-assoc)
 
-index-of : (b : ℕ) (s : List ℕ) → ltb (indexOf b s) (length s) ≡ oneOf s b
-unfolding indexOf oneOf
-index-of b [] = refl
-index-of b (x ∷ s) = index-after (eqb x b) (indexOf b s) (length s) ∙ rw (index-of b s)
-
-slice-to-end : (i : ℕ) (s : List ℕ) → slice i (length s) s ≡ drop i s
-unfolding slice
-slice-to-end i s = rw take-length
-
--- what `find` says of the whole of s
-pub found : (b : ℕ) (s : List ℕ) {r : ℕ} → r ≡ 0 + indexOf b (slice 0 (length s) s) → ltb r (length s) ≡ oneOf s b
-found b s e = simp (e, zero-add, slice-to-end 0 s) (index-of b s)
+-- one turn of a loop that looks for b: in the bytes before k, then at k
+pub one-of-next :
+    (s : List ℕ) (b k : ℕ) {found : Bool} →
+    k < length s →
+    found ≡ oneOf (take k s) b →
+    (found || eqb (getD s k 0) b) ≡ oneOf (take (k + 1) s) b
+one-of-next s b k h e = rw (add-one, take-suc s k 0 h, one-of-last, e)
 
 not-and : (a b : Bool) → not (not a && b) ≡ (a || not b)
 not-and true b = refl
@@ -86,10 +81,10 @@ pub name-parts :
     0 < length s →
     at ≡ 1 + indexOf 64 (slice 1 (length s) s) →
     matches nodeName s ≡ (letter (getD s 0 0) && (leb at 31 && (all nodeByte (take (at - 1) (drop 1 s)) && all nodeByte (drop (at + 1) s))))
-unfolding nodeName rest parts
+unfolding nodeName rest parts slice
 name-parts [] h e = absurd (omega arith)
 name-parts (b ∷ s) {at} h e =
     let k = indexOf 64 s in
-    let found : at ≡ suc k = e ∙ rw (slice-to-end 1 (b ∷ s), one-add) in
+    let found : at ≡ suc k = e ∙ rw (take-length s, one-add) in
     let before : suc k - 1 ≡ k = omega arith in
     one-then letter (rest 30) b s ∙ simp (rest-parts, found, before, add-one, leb·suc-suc k 30)

@@ -1,6 +1,6 @@
 -- A call returned t, which is the test u of a definition that goes on with a test v: what a branch on t says of both.
 use mathlib.Core.Path.{_≡_, sym, _∙_}
-use mathlib.Core.Bool.{Bool, true, false, not, _&&_, _||_}
+use mathlib.Core.Bool.{Bool, true, false, not, _&&_}
 use borrow.Author.Tests.{not-true, not-false}
 
 module _ {t u : Bool} (answer : t ≡ u) (v : Bool) where
@@ -10,10 +10,3 @@ module _ {t u : Bool} (answer : t ≡ u) (v : Bool) where
 
   pub and-yes : not t ≡ false → (u && v) ≡ v
   and-yes h = simp (sym answer ∙ not-false t h)
-
-  -- `f(x) || ..`
-  pub or-yes : t ≡ true → t ≡ (u || v)
-  or-yes h = simp (sym answer ∙ h) h
-
-  pub or-no : {s : Bool} → t ≡ false → s ≡ v → s ≡ (u || v)
-  or-no h e = simp (sym answer ∙ h) e

@@ -1,4 +1,4 @@
-// Tests of names: of nodes, of properties, and for a byte 0.
+// Tests of names: of nodes, of properties, and for a byte 0. They test every byte, so that many can be tested at once.
 ghost use mathlib.Core.Path.{_≡_};
 ghost use mathlib.Core.Bool.{_&&_, _||_};
 ghost use lib.Dec.{leb};
@@ -21,42 +21,47 @@ const PROPERTY_NAME_MARKS: [u8; 7] = *b",._+?#-";
 fn within(c: u8, from: u8, to: u8) -> bool
     ensures { λ r. ⌜ r ≡ (leb from c && leb c to) ⌝ }
 {
-    from <= c && c <= to
+    (from <= c) & (c <= to)
 }
 
 // Whether a byte is one of `s`.
 fn contains(s: &[u8], c: u8) -> bool
     ensures { λ r. ⌜ r ≡ oneOf (now (s .entry)) c ⌝ }
 {
-    bytes::scan::find(s, 0, s.len(), c) < s.len()
+    let mut any = false;
+    let mut k = 0;
+    while k < s.len() {
+        any = any | (s[k] == c);
+        k += 1;
+    }
+    any
 }
 
 // Whether a byte is a letter.
 fn node_name_valid_first_char(c: u8) -> bool
     ensures { λ r. ⌜ r ≡ letter c ⌝ }
 {
-    within(c, b'A', b'Z') || within(c, b'a', b'z')
+    within(c, b'A', b'Z') | within(c, b'a', b'z')
 }
 
 // Whether a byte is a letter, a digit or one of the marks.
 fn name_valid_char(c: u8, marks: &[u8]) -> bool
     ensures { λ r. ⌜ r ≡ nameByte (now (marks .entry)) c ⌝ }
 {
-    node_name_valid_first_char(c) || (within(c, b'0', b'9') || contains(marks, c))
+    node_name_valid_first_char(c) | (within(c, b'0', b'9') | contains(marks, c))
 }
 
 // Whether every byte is a letter, a digit or one of the marks.
 fn all_valid_chars(s: &[u8], marks: &[u8]) -> bool
     ensures { λ r. ⌜ r ≡ all (nameByte (now (marks .entry))) (now (s .entry)) ⌝ }
 {
+    let mut good = true;
     let mut i = 0;
     while i < s.len() {
-        if !name_valid_char(s[i], marks) {
-            return false;
-        }
+        good = good & name_valid_char(s[i], marks);
         i += 1;
     }
-    true
+    good
 }
 
 // Whether the bytes are a node name.
