@@ -9,7 +9,6 @@ use borrow.Author.Tests.{eq-eqb, ne-eqb, eqb-true, eqb-false}
 use lib.ListN.{length, take, drop, length-append, length-drop, drop-of-length-le}
 use lib.Seq.{append-snoc, drop-drop, take-length, length-take-le}
 use lib.Dec.{eqb}
-use Rattle.bytes.specs.Bytes.{slice, indexOf, indexAfter}
 use Rattle.fdt_strings.specs.Entries.{foundValues, entry, withByte, entries, same, firstFrom, findString, joined, NoZero, no-byte, next-byte}
 use Rattle.fdt_strings.specs.declared.Found.{Found}
 use Rattle.fdt_strings.specs.declared.Found.the-variants.{At, Nothing}
@@ -35,13 +34,6 @@ eq-same s t e = rw (← e) (self s)
     self [] = refl
     self (b ∷ s) = simp (eq-eqb b b refl, self s)
 
-pub ne-same : (s t : List ℕ) → (s ≡ t → ⊥) → same s t ≡ false
-ne-same s t h = go (same s t) refl
-  where
-    go : (z : Bool) → same s t ≡ z → z ≡ false
-    go true e = absurd (h (same-eq s t e))
-    go false e = refl
-
 -- ---- strings split into entries
 
 -- no entry has a byte 0
@@ -58,28 +50,6 @@ pub entries-front : {e : List ℕ} (rest : List ℕ) → NoZero e → entries (e
 unfolding entries withByte
 entries-front rest no-byte = refl
 entries-front rest (next-byte {b = b} h n) = simp (ne-eqb b 0 (omega arith), entries-front rest n)
-
--- the bytes before the first 0 are an entry
-pub entries-cut : (s : List ℕ) → indexOf 0 s < length s → entries s ≡ take (indexOf 0 s) s ∷ entries (drop (suc (indexOf 0 s)) s)
-unfolding entries withByte indexOf indexAfter
-entries-cut [] h = absurd (omega arith)
-entries-cut (b ∷ s) h = go (eqb b 0) (indexOf 0 s) (λ k. entries-cut s k) h
-  where
-    go :
-        (z : Bool) (n : ℕ) → (n < length s → entries s ≡ take n s ∷ entries (drop (suc n) s)) → indexAfter z n < length (b ∷ s) →
-        cond z ([] ∷ entries s) (withByte b (entries s)) ≡ take (indexAfter z n) (b ∷ s) ∷ entries (drop (suc (indexAfter z n)) (b ∷ s))
-    go true n more h = refl
-    go false n more h = ap (withByte b) (more (omega arith))
-
--- if no byte is 0 there is no entry
-pub entries-none : (s : List ℕ) → indexOf 0 s ≡ length s → entries s ≡ []
-unfolding entries withByte indexOf indexAfter
-entries-none [] h = refl
-entries-none (b ∷ s) h = go (eqb b 0) (indexOf 0 s) (entries s) (λ k. entries-none s k) h
-  where
-    go : (z : Bool) (n : ℕ) (es : List (List ℕ)) → (n ≡ length s → es ≡ []) → indexAfter z n ≡ length (b ∷ s) → cond z ([] ∷ es) (withByte b es) ≡ []
-    go true n es more h = absurd (omega arith)
-    go false n es more h = ap (withByte b) (more (omega arith))
 
 pub entries-plain : (s : List ℕ) → PlainNames (entries s)
 unfolding entries withByte
@@ -164,42 +134,6 @@ joined-whole (ended (b ∷ s)) = go (eqb b 0) refl (some-entry s .2) (joined-who
     go : {e : List ℕ} {es gs : List (List ℕ)} (z : Bool) → eqb b 0 ≡ z → gs ≡ e ∷ es → joined gs ≡ entry s → joined (cond z ([] ∷ gs) (withByte b gs)) ≡ b ∷ entry s
     go true f p q = let n = eqb-true b 0 f in cc
     go false f p q = rw p (ap (λ (l : List ℕ). b ∷ l) (rw p at q))
-
--- ---- the first entry from a place on
-
--- past the end there is none
-pub first-end : (s name : List ℕ) (from : ℕ) → length s ≤ from → firstFrom from (entries (drop from s)) name ≡ Nothing
-unfolding entries firstFrom
-first-end s name from h = ap (λ (l : List ℕ). firstFrom from (entries l) name) (drop-of-length-le s h)
-
--- `to` is the place of the next 0: there is none, the entry before it is the name, or it is not.
-module _ (s name : List ℕ) (from to : ℕ) (e : to ≡ from + indexOf 0 (slice from (length s) s)) (h : from ≤ length s) where
-  index : indexOf 0 (drop from s) ≡ to - from
-  unfolding slice
-  index = omega (arith, ap (λ (l : List ℕ). indexOf 0 (drop from l)) (take-length s))
-
-  pub first-none : to ≡ length s → firstFrom from (entries (drop from s)) name ≡ Nothing
-  unfolding firstFrom
-  first-none k = ap (λ (l : List (List ℕ)). firstFrom from l name) (entries-none (drop from s) (omega (arith, index, length-drop from s)))
-
-  module _ (k : to < length s) where
-    front : entries (drop from s) ≡ take (to - from) (drop from s) ∷ entries (drop (to + 1) s)
-    front =
-        let n : from + suc (to - from) ≡ to + 1 = omega arith in
-        entries-cut (drop from s) (omega (arith, index, length-drop from s))
-        ∙ ap (λ (m : ℕ). take m (drop from s) ∷ entries (drop (suc m) (drop from s))) index
-        ∙ ap (λ (l : List ℕ). take (to - from) (drop from s) ∷ entries l) (drop-drop (suc (to - from)) from s ∙ ap (λ (m : ℕ). drop m s) n)
-
-    pub first-here : take (to - from) (drop from s) ≡ name → firstFrom from (entries (drop from s)) name ≡ At from
-    unfolding firstFrom
-    first-here p = ap (λ (l : List (List ℕ)). firstFrom from l name) front ∙ simp (eq-same (take (to - from) (drop from s)) name p)
-
-    pub first-later : (take (to - from) (drop from s) ≡ name → ⊥) → firstFrom from (entries (drop from s)) name ≡ firstFrom (to + 1) (entries (drop (to + 1) s)) name
-    unfolding firstFrom
-    first-later p =
-        let n : from + (length (take (to - from) (drop from s)) + 1) ≡ to + 1 = omega (arith, length-take-le (to - from) (drop from s) (omega (arith, length-drop from s))) in
-        ap (λ (l : List (List ℕ)). firstFrom from l name) front
-        ∙ simp (ne-same (take (to - from) (drop from s)) name p) (ap (λ (m : ℕ). firstFrom m (entries (drop (to + 1) s)) name) n)
 
 -- ---- where a name is found
 

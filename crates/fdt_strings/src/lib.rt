@@ -23,16 +23,14 @@ pub enum Interned {
 pub fn find_string(strings: &[u8], name: &[u8]) -> Found
     ensures { λ r. ⌜ r ≡ findString (now (strings .entry)) (now (name .entry)) ⌝ }
 {
-    let mut start = 0;
-    while start < strings.len() {
-        let end = bytes::scan::find(strings, start, strings.len(), 0);
-        if end == strings.len() {
-            return Found::Nothing;
-        }
-        if check::same(&strings[start..end], name) {
-            return Found::At(start);
-        }
-        start = end + 1;
+    let n = name.len();
+    if strings.len() < n {
+        return Found::Nothing;
+    }
+    let places = strings.len() - n;
+    let at = fdt_search::first_entry(strings, places, name);
+    if at < places {
+        return Found::At(at);
     }
     Found::Nothing
 }
