@@ -2,6 +2,7 @@
 mod bench_time;
 
 use bench_time::{in_turn, line, rounds};
+use std::collections::HashSet;
 use std::hint::black_box;
 use vm_fdt::FdtWriter;
 
@@ -27,6 +28,49 @@ struct Work {
     text: String,
 }
 
+// How the names of a load are alike.
+#[derive(Clone, Copy)]
+enum Names {
+    Front,
+    End,
+    Both,
+    Mixed,
+    Tails,
+    Usual,
+}
+
+// The kinds of names beside the usual ones and those with the same front.
+const KINDS: [(Names, &str); 4] = [
+    (Names::End, "same end"),
+    (Names::Both, "same front and end"),
+    (Names::Mixed, "mixed lengths"),
+    (Names::Tails, "tails of others"),
+];
+
+// Names that many devicetrees have.
+const USUAL: &str = "compatible reg #address-cells #size-cells status interrupts interrupt-parent clocks clock-names \
+    phandle ranges model label gpios interrupt-names reg-names #clock-cells #gpio-cells #interrupt-cells \
+    gpio-controller interrupt-controller reg-shift reg-io-width clock-frequency current-speed dma-names dmas \
+    assigned-clocks vdd-supply vin-supply pinctrl-names pinctrl-0 bus-width max-frequency device_type dma-coherent \
+    resets reset-names phys phy-names";
+
+// So many letters, from the given one on, each so many after the one before.
+fn letters(many: usize, from: usize, step: usize) -> String {
+    (0..many).map(|i| (b'a' + ((from + i * step) % 26) as u8) as char).collect()
+}
+
+// The name of a kind with the given number. Of the tails, each is the end of the next, 31 in a row.
+fn name(kind: Names, k: usize) -> String {
+    match kind {
+        Names::Front => format!("station,prop-{k:03}"),
+        Names::End => format!("{k:03}-cells"),
+        Names::Both => format!("station,{k:03}-cells"),
+        Names::Mixed => format!("{}{}", letters(k * 11 % 28 + 1, k, k / 26 + 3), letters(2, k / 26, k)),
+        Names::Tails => letters(31, k / 31, 1)[30 - k % 31..].to_string(),
+        Names::Usual => USUAL.split(' ').nth(k).unwrap().to_string(),
+    }
+}
+
 impl Work {
     fn call(&mut self, kind: usize, name: &str, value: &str) {
         let at = self.text.len();
@@ -36,14 +80,16 @@ impl Work {
     }
 
     // So many nodes under a root, four properties each, of so many distinct names, with values of 1 to 4 times so many bytes.
-    fn new(nodes: usize, names: usize, bytes: usize) -> Work {
+    fn new(nodes: usize, kind: Names, many: usize, bytes: usize) -> Work {
+        let names: Vec<String> = (0..many).map(|k| name(kind, k)).collect();
+        assert!(names.iter().collect::<HashSet<_>>().len() == many, "two names of a load are the same");
         let mut w = Work { calls: Vec::new(), text: String::new() };
         w.call(1, "", "");
         for i in 0..nodes {
             w.call(1, &format!("sensor@{i:x}"), "");
             for k in i * 4..i * 4 + 4 {
                 let value: String = (0..(k % 4 + 1) * bytes).map(|b| ((k * 7 + b) % 127) as u8 as char).collect();
-                w.call(3, &format!("station,prop-{:03}", k % names), &value);
+                w.call(3, &names[k % many], &value);
             }
             w.call(2, "", "");
         }
@@ -104,17 +150,24 @@ fn measure(name: &str, w: &Work, rounds: usize) {
 
 fn main() {
     let rounds = rounds();
-    measure("500 nodes, 40 names", &Work::new(500, 40, 4), rounds);
+    measure("500 nodes, 40 names", &Work::new(500, Names::Front, 40, 4), rounds);
     println!("\nas the nodes grow (40 names):");
     for nodes in [31, 62, 125, 250, 500] {
-        measure(&format!("{nodes} nodes"), &Work::new(nodes, 40, 4), rounds);
+        measure(&format!("{nodes} nodes"), &Work::new(nodes, Names::Front, 40, 4), rounds);
     }
     println!("\nas the names grow (400 nodes):");
     for names in [5, 10, 20, 40, 80, 160, 320] {
-        measure(&format!("{names} names"), &Work::new(400, names, 4), rounds);
+        measure(&format!("{names} names"), &Work::new(400, Names::Front, names, 4), rounds);
+    }
+    println!("\nby the kind of names (400 nodes):");
+    measure("40 usual names", &Work::new(400, Names::Usual, 40, 4), rounds);
+    for (kind, alike) in KINDS {
+        for many in [40, 320] {
+            measure(&format!("{many} names, {alike}"), &Work::new(400, kind, many, 4), rounds);
+        }
     }
     println!("\nas the values grow (40 nodes, 40 names):");
     for bytes in [4, 8, 16, 32, 64, 128] {
-        measure(&format!("values of {bytes} to {} bytes", 4 * bytes), &Work::new(40, 40, bytes), rounds);
+        measure(&format!("values of {bytes} to {} bytes", 4 * bytes), &Work::new(40, Names::Front, 40, bytes), rounds);
     }
 }
