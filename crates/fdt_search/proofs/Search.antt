@@ -9,7 +9,8 @@ use borrow.Author.Count.{below-more}
 use borrow.Author.Tests.{eq-eqb, ne-eqb, eqb-true, eqb-false, ltb-true, ltb-false, not-true}
 use lib.Dec.{eqb, ltb}
 use lib.ListN.{length, getD, List·getD-eq-default}
-use Rattle.fdt_search.specs.Search.{PlainByte, EntryAt, NoEntry, ClueOf, CluesOf, HasClues, Nowhere}
+use Rattle.fdt_search.specs.Clues.{ClueOf, CluesOf, HasClues, Nowhere}
+use Rattle.fdt_search.specs.FirstEntry.{PlainByte, EntryAt, NoEntry}
 use Rattle.fdt_search.specs.declared.Clue.{Clue}
 use Rattle.fdt_search.specs.declared.Clues.{Clues}
 

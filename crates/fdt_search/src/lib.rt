@@ -5,7 +5,8 @@ ghost use mathlib.Core.Bool.{true};
 ghost use mathlib.Core.Logic.{_↔_};
 ghost use Prim.Native.Nat.{ℕ, _+_, _≤_, _<_};
 ghost use lib.ListN.{length};
-ghost use Rattle.fdt_search.specs.Search.{PlainByte, EntryAt, FirstEntry, ClueOf, CluesOf, HasClues, Nowhere, NextPlace, Readable};
+ghost use Rattle.fdt_search.specs.Clues.{ClueOf, CluesOf, HasClues, Nowhere, NextPlace, Readable};
+ghost use Rattle.fdt_search.specs.FirstEntry.{PlainByte, EntryAt, FirstEntry};
 
 // A byte of a name, or the 0 after it, and its place in the name.
 pub struct Clue {

@@ -5,7 +5,7 @@ use Prim.Native.Nat.{ℕ, zero, suc, _+_, _-_, _≤_, _<_}
 use native.Mathlib.Omega.{arith}
 use lib.ListN.{length, take, drop, getD, List·getD-append, take-append-drop, length-append, length-drop}
 use lib.Seq.{take-suc, drop-at, drop-cons, drop-drop, getD-at, getD-take, getD-drop, length-take-le, ext-getD}
-use Rattle.fdt_search.specs.Search.{PlainByte, EntryAt, NoEntry}
+use Rattle.fdt_search.specs.FirstEntry.{PlainByte, EntryAt, NoEntry}
 use Rattle.fdt_strings.specs.Entries.{entry, findString, NoZero, no-byte, next-byte}
 use Rattle.fdt_strings.specs.declared.Found.{Found}
 use Rattle.fdt_strings.specs.declared.Found.the-variants.{At, Nothing}

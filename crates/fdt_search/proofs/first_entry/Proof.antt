@@ -5,7 +5,8 @@ use Prim.Native.Nat.{_-_, _≤_}
 use native.Mathlib.Omega.{arith}
 use borrow.Author.Count.{below-more}
 use borrow.Author.Needs.{needs}
-use Rattle.fdt_search.specs.Search.{CluesOf, NoEntry}
+use Rattle.fdt_search.specs.Clues.{CluesOf}
+use Rattle.fdt_search.specs.FirstEntry.{NoEntry}
 use Rattle.fdt_search.proofs.Search.{no-entry-nowhere}
 use Rattle.fdt_search.proofs.first_entry.Statement.{statement}
 use Rattle.fdt_search.proofs.first_entry.Tie as tie

@@ -3,7 +3,7 @@ use Prim.Native.Nat.{_-_, _≤_}
 use native.Mathlib.Omega.{arith}
 use borrow.Author.Needs.{needs}
 use borrow.Author.Tests.{not-false}
-use Rattle.fdt_search.specs.Search.{NextPlace}
+use Rattle.fdt_search.specs.Clues.{NextPlace}
 use Rattle.fdt_search.proofs.Search.{nowhere-join}
 use Rattle.fdt_search.proofs.next_place.Statement.{statement}
 use Rattle.fdt_search.proofs.next_place.Tie as tie

@@ -4,7 +4,7 @@ use mathlib.Core.Bool.{true}
 use Prim.Native.Nat.{_+_, _-_, _≤_}
 use native.Mathlib.Omega.{arith}
 use borrow.Author.Needs.{needs}
-use Rattle.fdt_search.specs.Search.{Nowhere}
+use Rattle.fdt_search.specs.Clues.{Nowhere}
 use Rattle.fdt_search.proofs.Search.{nowhere-and}
 use Rattle.fdt_search.proofs.nowhere.Statement.{statement}
 use Rattle.fdt_search.proofs.nowhere.Tie as tie

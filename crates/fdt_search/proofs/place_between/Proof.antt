@@ -4,7 +4,7 @@ use mathlib.Core.Bool.{true≢false}
 use Prim.Native.Nat.{_-_, _≤_}
 use native.Mathlib.Omega.{arith}
 use borrow.Author.Needs.{needs}
-use Rattle.fdt_search.specs.Search.{NextPlace}
+use Rattle.fdt_search.specs.Clues.{NextPlace}
 use Rattle.fdt_search.proofs.Search.{nowhere-more}
 use Rattle.fdt_search.proofs.place_between.Statement.{statement}
 use Rattle.fdt_search.proofs.place_between.Tie as tie

@@ -6,7 +6,7 @@ use Prim.Native.Nat.{ℕ, _-_, _≤_, _<_}
 use native.Mathlib.Omega.{arith}
 use borrow.Author.Needs.{needs}
 use lib.ListN.{length}
-use Rattle.fdt_search.specs.Search.{PlainByte}
+use Rattle.fdt_search.specs.FirstEntry.{PlainByte}
 use Rattle.fdt_search.proofs.Search.{plain-more}
 use Rattle.fdt_search.proofs.same_plain.Statement.{statement}
 use Rattle.fdt_search.proofs.same_plain.Tie as tie
