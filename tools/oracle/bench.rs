@@ -59,14 +59,14 @@ fn letters(many: usize, from: usize, step: usize) -> String {
     (0..many).map(|i| (b'a' + ((from + i * step) % 26) as u8) as char).collect()
 }
 
-// The name of a kind with the given number. Of the tails, each is the end of the next, 31 in a row.
+// The name of a kind with the given number. Of the tails, each is the end of the one before, 31 in a row.
 fn name(kind: Names, k: usize) -> String {
     match kind {
         Names::Front => format!("station,prop-{k:03}"),
         Names::End => format!("{k:03}-cells"),
         Names::Both => format!("station,{k:03}-cells"),
         Names::Mixed => format!("{}{}", letters(k * 11 % 28 + 1, k, k / 26 + 3), letters(2, k / 26, k)),
-        Names::Tails => letters(31, k / 31, 1)[30 - k % 31..].to_string(),
+        Names::Tails => letters(31, k / 31, 1)[k % 31..].to_string(),
         Names::Usual => USUAL.split(' ').nth(k).unwrap().to_string(),
     }
 }

@@ -1,4 +1,4 @@
-// Tests of names: of nodes, of properties, and for a byte 0. They test every byte, so that many can be tested at once.
+// Tests of names: of nodes, of properties, and for a byte 0. Loops over bytes have no early exit, so that many can be tested at once.
 ghost use mathlib.Core.Path.{_≡_};
 ghost use mathlib.Core.Bool.{_&&_, _||_};
 ghost use lib.Dec.{leb};

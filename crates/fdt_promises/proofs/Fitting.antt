@@ -7,10 +7,10 @@ use Prim.Native.Nat.{ℕ, zero, suc, _+_, _-_, _%_, _≤_, _<_}
 use native.Mathlib.Omega.{arith}
 use borrow.Author.Tests.{eq-eqb, ne-eqb, le-ltb}
 use lib.Dec.{eqb}
-use lib.ListN.{length, getD, length-append}
-use lib.Seq.{getD-at, getD-take}
-use Rattle.fdt_strings.specs.Entries.{joined, entry}
-use Rattle.fdt_strings.proofs.Entries.{Whole, empty, ended, whole-joined}
+use lib.ListN.{length, getD}
+use lib.Seq.{getD-take}
+use Rattle.fdt_strings.specs.Entries.{joined}
+use Rattle.fdt_strings.proofs.Entries.{whole-joined, whole-last}
 use Rattle.fdt_header.specs.Header.{structureStart}
 use Rattle.fdt_values.specs.Value.{Value, raw, cells, texts, sum, misfitValue}
 use Rattle.fdt_format.specs.Blob.{namesOf, eventsSize}
@@ -49,12 +49,6 @@ unfolding eventsSize
 sizes-multiple [] = refl
 sizes-multiple (e ∷ es) = omega (arith, size-multiple e, sizes-multiple es)
 
--- strings of whole entries end with a 0
-last-byte : {s : List ℕ} → Whole s → 0 < length s → getD s (length s - 1) 0 ≡ 0
-unfolding entry
-last-byte empty l = absurd (omega arith)
-last-byte (ended s) l = getD-at s 0 [] 0 (length (s ++ (0 ∷ [])) - 1) (omega (arith, length-append s (0 ∷ [])))
-
 module _ {numbers : List ℕ} {es : List Event} {boot : ℕ} {marks : List ℕ} {s : Desk} (o : Open numbers es boot marks s) where
   ends-with-0 : (n : ℕ) → s .writer .«strings_used» ≡ n → (not (eqb (s .writer .«strings_used») 0) && not (eqb (getD (s .strings) (s .writer .«strings_used» - 1) 0) 0)) ≡ false
   ends-with-0 zero e = simp (eq-eqb _ _ e)
@@ -65,7 +59,7 @@ module _ {numbers : List ℕ} {es : List Event} {boot : ℕ} {marks : List ℕ} 
       sym (getD-take used (s .strings) (used - 1) 0 (omega (arith, e)))
       ∙ ap (λ (x : List ℕ). getD x (used - 1) 0) (f .part)
       ∙ ap (λ (k : ℕ). getD (joined (namesOf es)) (k - 1) 0) (f .counted)
-      ∙ last-byte (whole-joined (namesOf es)) (omega (arith, e, f .counted))
+      ∙ whole-last (whole-joined (namesOf es)) refl (omega (arith, e, f .counted))
       in
       simp (ne-eqb used 0 (λ z. omega (arith, e, z)), eq-eqb _ _ l)
 

@@ -1,9 +1,9 @@
 -- Laws of the search for a name: what its tests say of the bytes, and how far it has come.
 use mathlib.Core.Path.{_≡_, refl, sym, _∙_}
 use mathlib.Core.Bool.{Bool, true, false, not, _&&_, and-eq-true-iff, true≢false}
-use mathlib.Core.List.{List}
+use mathlib.Core.List.{List, _∷_}
 use mathlib.Core.Logic.{_↔_}
-use Prim.Native.Nat.{ℕ, _+_, _≤_, _<_}
+use Prim.Native.Nat.{ℕ, zero, suc, _+_, _-_, _≤_, _<_}
 use native.Mathlib.Omega.{arith}
 use borrow.Author.Count.{below-more}
 use borrow.Author.Tests.{eq-eqb, ne-eqb, eqb-true, eqb-false, ltb-true, ltb-false, not-true}
@@ -14,13 +14,25 @@ use Rattle.fdt_search.specs.FirstEntry.{PlainByte, EntryAt, NoEntry}
 use Rattle.fdt_search.specs.declared.Clue.{Clue}
 use Rattle.fdt_search.specs.declared.Clues.{Clues}
 
--- ---- places that have the clues
+-- what holds below mid, and from mid on below `to`, holds below `to`
+below-join : (P : ℕ → Type 0) (mid to : ℕ) → ((k : ℕ) → k < mid → P k) → ((k : ℕ) → mid ≤ k → k < to → P k) → (k : ℕ) → k < to → P k
+below-join P mid to low high k h = go (ltb k mid) refl
+  where
+    go : (t : Bool) → ltb k mid ≡ t → P k
+    go true e = low k (ltb-true k mid e)
+    go false e = high k (ltb-false k mid e) h
+
+-- ---- gaps that have the clues
+
+pub own-byte : (name : List ℕ) (at : ℕ) → 0 < at → getD name (at - 1) 0 ≡ getD (0 ∷ name) at 0
+own-byte name zero h = absurd (omega arith)
+own-byte name (suc k) h = let e : suc k - 1 ≡ k = omega arith in rw e refl
 
 pub clues-test :
-    (s : List ℕ) (c : Clues) (place : ℕ) →
-    ((eqb (getD s (place + c .first .at) 0) (c .first .byte) && eqb (getD s (place + c .second .at) 0) (c .second .byte))
-    && eqb (getD s (place + c .end .at) 0) (c .end .byte)) ≡ true ↔ HasClues s c place
-clues-test s c place = (
+    (s : List ℕ) (c : Clues) (gap : ℕ) →
+    ((eqb (getD s (gap + c .first .at) 0) (c .first .byte) && eqb (getD s (gap + c .second .at) 0) (c .second .byte))
+    && eqb (getD s (gap + c .end .at) 0) (c .end .byte)) ≡ true ↔ HasClues s c gap
+clues-test s c gap = (
   λ h.
       let p = and-eq-true-iff _ _ .0 h in
       let q = and-eq-true-iff _ _ .0 (p .0) in
@@ -30,31 +42,24 @@ clues-test s c place = (
 
 module _ (s : List ℕ) (c : Clues) (from : ℕ) where
   pub nowhere-join : (mid to : ℕ) → Nowhere s c from mid → Nowhere s c mid to → Nowhere s c from to
-  nowhere-join mid to a b place h k w = go (ltb place mid) refl
-    where
-      go : (t : Bool) → ltb place mid ≡ t → ⊥
-      go true e = a place h (ltb-true place mid e) w
-      go false e = b place (ltb-false place mid e) k w
+  nowhere-join mid to a b = below-join _ mid to a (λ gap m l h w. b gap l m w)
 
-  pub nowhere-more : (to : ℕ) → Nowhere s c from to → (HasClues s c to → ⊥) → Nowhere s c from (to + 1)
-  nowhere-more to a n = nowhere-join to (to + 1) a (λ place h k w. let e : place ≡ to = omega arith in n (rw e at w))
-
-  -- one turn of a loop over places
+  -- one turn of a loop over gaps, which has tested those before `from + k`
   pub nowhere-and :
-      (i : ℕ) (none here : Bool) → (none ≡ true → Nowhere s c from (from + i)) → here ≡ true ↔ HasClues s c (from + i) →
-      (none && not here) ≡ true → Nowhere s c from (from + (i + 1))
-  nowhere-and i none here before at h place j k w =
+      (k : ℕ) (none here : Bool) → (none ≡ true → Nowhere s c from (from + k)) → here ≡ true ↔ HasClues s c (from + k) →
+      (none && not here) ≡ true → Nowhere s c from (from + (k + 1))
+  nowhere-and k none here before at h gap l =
       let p = and-eq-true-iff _ _ .0 h in
-      nowhere-more (from + i) (before (p .0)) (λ x. true≢false (sym (at .1 x) ∙ not-true here (p .1))) place j (omega arith) w
+      below-more _ (from + k) (before (p .0)) (λ m w. true≢false (sym (at .1 w) ∙ not-true here (p .1))) gap (omega arith)
 
 -- ---- entries
 
-module _ (s name : List ℕ) (place : ℕ) where
+module _ (s name : List ℕ) where
   -- one turn of a loop over the bytes of the name
   pub plain-more :
-      (good : Bool) (i : ℕ) → good ≡ true ↔ ((k : ℕ) → k < i → PlainByte s name place k) →
+      (place : ℕ) (good : Bool) (i : ℕ) → good ≡ true ↔ ((k : ℕ) → k < i → PlainByte s name place k) →
       (good && (eqb (getD s (place + i) 0) (getD name i 0) && not (eqb (getD name i 0) 0))) ≡ true ↔ ((k : ℕ) → k < i + 1 → PlainByte s name place k)
-  plain-more good i before = (
+  plain-more place good i before = (
     λ h.
         let p = and-eq-true-iff _ _ .0 h in
         let q = and-eq-true-iff _ _ .0 (p .1) in
@@ -64,27 +69,30 @@ module _ (s name : List ℕ) (place : ℕ) where
         simp (before .1 (λ k l. all k (omega arith)), eq-eqb _ _ (w .same), ne-eqb _ _ (w .plain)),
   )
 
-  -- an entry has the bytes of the name and its 0
-  entry-byte : EntryAt s name place → (k : ℕ) → k ≤ length name → getD s (place + k) 0 ≡ getD name k 0
-  entry-byte w k l = go (ltb k (length name)) refl
+  -- an entry after a gap has there the 0 before it, its bytes and the 0 after it
+  entry-byte : (gap : ℕ) → EntryAt s name (gap + 1) → (k : ℕ) → k ≤ length name + 1 → getD s (gap + k) 0 ≡ getD (0 ∷ name) k 0
+  entry-byte gap w zero l = let e : gap + 1 - 1 ≡ gap + 0 = omega arith in rw (← e) (w .begun (omega arith))
+  entry-byte gap w (suc k) l = go (ltb k (length name)) refl
     where
-      go : (t : Bool) → ltb k (length name) ≡ t → getD s (place + k) 0 ≡ getD name k 0
-      go true e = w .bytes k (ltb-true k (length name) e) .same
-      go false e =
-          let n : k ≡ length name = omega (arith, ltb-false k (length name) e) in
-          rw n (w .ended ∙ sym (List·getD-eq-default name 0 (omega arith)))
+      e : gap + suc k ≡ gap + 1 + k
+      e = omega arith
 
-  -- an entry has all clues of the name
-  entry-clues : (c : Clues) → CluesOf name c → EntryAt s name place → HasClues s c place
-  entry-clues c own w =
-      let clue : (d : Clue) → ClueOf name d → getD s (place + d .at) 0 ≡ d .byte = λ d o. entry-byte w (d .at) (o .inside) ∙ sym (o .right) in
+      go : (t : Bool) → ltb k (length name) ≡ t → getD s (gap + suc k) 0 ≡ getD name k 0
+      go true h = rw e (w .bytes k (ltb-true k (length name) h) .same)
+      go false h =
+          let n : k ≡ length name = omega (arith, ltb-false k (length name) h) in
+          rw (e, n) (w .ended ∙ sym (List·getD-eq-default name 0 (omega arith)))
+
+  entry-clues : (c : Clues) (gap : ℕ) → CluesOf name c → EntryAt s name (gap + 1) → HasClues s c gap
+  entry-clues c gap own w =
+      let clue : (d : Clue) → ClueOf name d → getD s (gap + d .at) 0 ≡ d .byte = λ d o. entry-byte gap w (d .at) (o .inside) ∙ sym (o .right) in
       record { first = clue _ (own .first); second = clue _ (own .second); end = clue _ (own .end) }
 
--- no entry is at places that do not have the clues
-pub no-entry-nowhere :
-    (s name : List ℕ) (c : Clues) (from to : ℕ) → CluesOf name c → NoEntry s name from → Nowhere s c from to → NoEntry s name to
-no-entry-nowhere s name c from to own before none place h w = go (ltb place from) refl
-  where
-    go : (t : Bool) → ltb place from ≡ t → ⊥
-    go true e = before place (ltb-true place from e) w
-    go false e = none place (ltb-false place from e) h (entry-clues s name place c own w)
+  -- no entry is after gaps that do not have the clues
+  pub no-entry-nowhere :
+      (c : Clues) (from to : ℕ) → CluesOf name c → NoEntry s name (from + 1) → Nowhere s c from to → NoEntry s name (to + 1)
+  no-entry-nowhere c from to own before none = below-join _ (from + 1) (to + 1) before later
+    where
+      later : (place : ℕ) → from + 1 ≤ place → place < to + 1 → EntryAt s name place → ⊥
+      later zero l h w = omega arith
+      later (suc gap) l h w = let e : suc gap ≡ gap + 1 = omega arith in none gap (omega arith) (omega arith) (entry-clues c gap own (rw e at w))

@@ -16,12 +16,12 @@ pub record EntryAt (s name : List ℕ) (place : ℕ) : Type 0 where
   pub ended : getD s (place + length name) 0 ≡ 0
   pub begun : 0 < place → getD s (place - 1) 0 ≡ 0
 
--- the name is an entry at no place before one
+-- the name is an entry at no place before `to`
 abbrev pub NoEntry : List ℕ → List ℕ → ℕ → Type 0
 NoEntry s name to = (place : ℕ) → place < to → EntryAt s name place → ⊥
 
--- the first of so many places where the name is an entry, or their number if there is none
-pub record FirstEntry (s name : List ℕ) (places place : ℕ) : Type 0 where
-  pub inside : place ≤ places
-  pub found : place < places → EntryAt s name place
+-- the first place where the name is an entry, or the length of the strings if there is none
+pub record FirstEntry (s name : List ℕ) (place : ℕ) : Type 0 where
+  pub inside : place ≤ length s
+  pub found : place < length s → EntryAt s name place
   pub first : NoEntry s name place

@@ -1,35 +1,44 @@
-// The search for a name in the strings area. It looks for three bytes of the name, at 32 places at a time, and compares the
-// whole entry only where they are.
+// The search for a name in the strings area. It looks for two bytes of the name and the 0 after it, at 32 places at a time,
+// and compares the whole entry only where they are.
 ghost use mathlib.Core.Path.{_≡_};
 ghost use mathlib.Core.Bool.{true};
 ghost use mathlib.Core.Logic.{_↔_};
-ghost use Prim.Native.Nat.{ℕ, _+_, _≤_, _<_};
+ghost use Prim.Native.Nat.{ℕ, _+_, _≤_, _<_, _^_};
 ghost use lib.ListN.{length};
-ghost use Rattle.fdt_search.specs.Clues.{ClueOf, CluesOf, HasClues, Nowhere, NextPlace, Readable};
+ghost use Rattle.fdt_search.specs.Clues.{ClueOf, CluesOf, HasClues, Nowhere, NextGap, Readable};
 ghost use Rattle.fdt_search.specs.FirstEntry.{PlainByte, EntryAt, FirstEntry};
 
-// A byte of a name, or the 0 after it, and its place in the name.
-pub struct Clue {
-    pub at: usize,
-    pub byte: u8,
+// The byte after each entry.
+const END: u8 = 0;
+
+// A byte to look for, and its place: 0 is the 0 before the name, then come the name and the 0 after it.
+struct Clue {
+    at: usize,
+    byte: u8,
 }
 
-// Three bytes to look for: two of the name, and the 0 after it.
-pub struct Clues {
-    pub first: Clue,
-    pub second: Clue,
-    pub end: Clue,
+// Three bytes to look for. The last one is the 0 after the name.
+struct Clues {
+    first: Clue,
+    second: Clue,
+    end: Clue,
 }
 
-// The clue at a place of a name.
+// The clue of a name at a place.
 fn clue_of(name: &[u8], at: usize) -> Clue
-    requires { ⌜ at ≤ length (now name) ⌝ }
+    requires { ⌜ at ≤ length (now name) + 1 ⌝ }
     ensures { λ r. ⌜ ClueOf (now (name .entry)) r ⌝ }
 {
-    if at < name.len() {
-        return Clue { at, byte: name[at] };
+    if at == 0 {
+        return Clue { at, byte: END };
     }
-    Clue { at, byte: 0 }
+    if name.len() < at {
+        return Clue { at, byte: END };
+    }
+    Clue {
+        at,
+        byte: name[at - 1],
+    }
 }
 
 // One less than a number; 0 for 0.
@@ -42,37 +51,29 @@ fn previous(n: usize) -> usize
     n - 1
 }
 
-// The clues at two places of a name and at its end.
+// The clues of a name at two places and at its end.
 fn clues_at(name: &[u8], first: usize, second: usize) -> Clues
-    requires { ⌜ (first ≤ length (now name)) × (second ≤ length (now name)) ⌝ }
+    requires { ⌜ (first ≤ length (now name) + 1) × (second ≤ length (now name) + 1) × (length (now name) + 1 < 2 ^ 64) ⌝ }
     ensures { λ r. ⌜ CluesOf (now (name .entry)) r ⌝ }
 {
     Clues {
         first: clue_of(name, first),
         second: clue_of(name, second),
-        end: clue_of(name, name.len()),
+        end: clue_of(name, name.len() + 1),
     }
 }
 
-// The clues to begin with: the last two bytes of the name, and the 0.
-fn last_bytes(name: &[u8]) -> Clues
-    ensures { λ r. ⌜ CluesOf (now (name .entry)) r ⌝ }
+// Whether the bytes from `gap` on have the clues.
+fn has_clues(s: &[u8], gap: usize, c: Clues) -> bool
+    requires { ⌜ Readable (now s) c (gap + 1) ⌝ }
+    ensures { λ r. ⌜ (r ≡ true ↔ HasClues (now (s .entry)) c gap) ⌝ }
 {
-    let last = previous(name.len());
-    clues_at(name, last, previous(last))
+    (s[gap + c.first.at] == c.first.byte)
+        & (s[gap + c.second.at] == c.second.byte)
+        & (s[gap + c.end.at] == c.end.byte)
 }
 
-// Whether a place has the clues.
-fn has_clues(s: &[u8], at: usize, c: Clues) -> bool
-    requires { ⌜ Readable (now s) c (at + 1) ⌝ }
-    ensures { λ r. ⌜ (r ≡ true ↔ HasClues (now (s .entry)) c at) ⌝ }
-{
-    (s[at + c.first.at] == c.first.byte)
-        & (s[at + c.second.at] == c.second.byte)
-        & (s[at + c.end.at] == c.end.byte)
-}
-
-// True only if none of 32 places has the clues. Every place is tested, so that many can be tested at once.
+// True only if none of 32 gaps has the clues. Every gap is tested, so that many can be tested at once.
 fn nowhere(s: &[u8], from: usize, c: Clues) -> bool
     requires { ⌜ Readable (now s) c (from + 32) ⌝ }
     ensures { λ r. ⌜ (r ≡ true → Nowhere (now (s .entry)) c from (from + 32)) ⌝ }
@@ -86,102 +87,148 @@ fn nowhere(s: &[u8], from: usize, c: Clues) -> bool
     none
 }
 
-// The first place from `from` up to `to` that has the clues; `to` if there is none.
-fn place_between(s: &[u8], from: usize, to: usize, c: Clues) -> usize
+// The first gap from `from` on that has the clues; `to` if none before it does.
+fn gap_between(s: &[u8], from: usize, to: usize, c: Clues) -> usize
     requires { ⌜ (from ≤ to) × Readable (now s) c to ⌝ }
-    ensures { λ r. ⌜ NextPlace (now (s .entry)) c from to r ⌝ }
+    ensures { λ r. ⌜ NextGap (now (s .entry)) c from to r ⌝ }
 {
-    let mut place = from;
-    while place < to {
-        if has_clues(s, place, c) {
-            return place;
+    let mut gap = from;
+    while gap < to {
+        if has_clues(s, gap, c) {
+            return gap;
         }
-        place += 1;
+        gap += 1;
     }
     to
 }
 
-// The same, but 32 places at a time.
-fn next_place(s: &[u8], from: usize, to: usize, c: Clues) -> usize
+// The same, but 32 gaps at a time.
+fn next_gap(s: &[u8], from: usize, to: usize, c: Clues) -> usize
     requires { ⌜ (from ≤ to) × Readable (now s) c to ⌝ }
-    ensures { λ r. ⌜ NextPlace (now (s .entry)) c from to r ⌝ }
+    ensures { λ r. ⌜ NextGap (now (s .entry)) c from to r ⌝ }
 {
     let mut at = from;
     while 32 <= to - at {
         if !nowhere(s, at, c) {
-            return place_between(s, at, at + 32, c);
+            return gap_between(s, at, at + 32, c);
         }
         at += 32;
     }
-    place_between(s, at, to, c)
+    gap_between(s, at, to, c)
 }
 
 // Whether the name is at a place, and none of its bytes is 0. Every byte is compared, so that many can be compared at once.
-fn same_plain(s: &[u8], at: usize, name: &[u8]) -> bool
-    requires { ⌜ at + length (now name) ≤ length (now s) ⌝ }
-    ensures { λ r. ⌜ (r ≡ true ↔ ((k : ℕ) → k < length (now (name .entry)) → PlainByte (now (s .entry)) (now (name .entry)) at k)) ⌝ }
+fn same_plain(s: &[u8], place: usize, name: &[u8]) -> bool
+    requires { ⌜ place + length (now name) ≤ length (now s) ⌝ }
+    ensures { λ r. ⌜ (r ≡ true ↔ ((k : ℕ) → k < length (now (name .entry)) → PlainByte (now (s .entry)) (now (name .entry)) place k)) ⌝ }
 {
     let mut good = true;
     let mut i = 0;
     while i < name.len() {
-        good = good & ((s[at + i] == name[i]) & (name[i] != 0));
+        good = good & ((s[place + i] == name[i]) & (name[i] != END));
         i += 1;
     }
     good
 }
 
 // Whether the name is an entry at a place.
-fn entry_at(s: &[u8], at: usize, name: &[u8]) -> bool
-    requires { ⌜ at + length (now name) < length (now s) ⌝ }
-    ensures { λ r. ⌜ (r ≡ true ↔ EntryAt (now (s .entry)) (now (name .entry)) at) ⌝ }
+fn entry_at(s: &[u8], place: usize, name: &[u8]) -> bool
+    requires { ⌜ place + length (now name) < length (now s) ⌝ }
+    ensures { λ r. ⌜ (r ≡ true ↔ EntryAt (now (s .entry)) (now (name .entry)) place) ⌝ }
 {
-    if s[at + name.len()] != 0 {
+    if s[place + name.len()] != END {
         return false;
     }
-    if 0 < at {
-        if s[at - 1] != 0 {
+    if 0 < place {
+        if s[place - 1] != END {
             return false;
         }
     }
-    same_plain(s, at, name)
+    same_plain(s, place, name)
 }
 
-// Where the name first differs from the bytes at a place; its length if nowhere.
-fn difference(s: &[u8], at: usize, name: &[u8]) -> usize
-    requires { ⌜ at + length (now name) ≤ length (now s) ⌝ }
+// Whether the last byte of the name and a 0 are where they are if the name is the first entry.
+fn alike(s: &[u8], name: &[u8]) -> bool
+    requires { ⌜ length (now name) < length (now s) ⌝ }
+    ensures { λ r. ⌜ (EntryAt (now (s .entry)) (now (name .entry)) 0 → r ≡ true) ⌝ }
+{
+    let n = name.len();
+    if s[n] != END {
+        return false;
+    }
+    if n == 0 {
+        return true;
+    }
+    s[n - 1] == name[n - 1]
+}
+
+// Whether the name is the first entry.
+fn starts_with(s: &[u8], name: &[u8]) -> bool
+    requires { ⌜ length (now name) < length (now s) ⌝ }
+    ensures { λ r. ⌜ (r ≡ true ↔ EntryAt (now (s .entry)) (now (name .entry)) 0) ⌝ }
+{
+    if !alike(s, name) {
+        return false;
+    }
+    entry_at(s, 0, name)
+}
+
+// The clue's place of the first byte of the name that differs from the bytes at a place; that of the 0 before it if none does.
+fn difference(s: &[u8], place: usize, name: &[u8]) -> usize
+    requires { ⌜ place + length (now name) ≤ length (now s) ⌝ }
     ensures { λ r. ⌜ r ≤ length (now (name .entry)) ⌝ }
 {
     let mut i = 0;
     while i < name.len() {
-        if s[at + i] != name[i] {
-            return i;
+        if s[place + i] != name[i] {
+            return i + 1;
         }
         i += 1;
     }
-    i
+    0
 }
 
-// The clues to go on with after a place that has the clues and is not the entry: the byte that differs there is now one of them.
-fn sharper(s: &[u8], at: usize, name: &[u8], c: Clues) -> Clues
-    requires { ⌜ (at + length (now name) ≤ length (now s)) × CluesOf (now name) c ⌝ }
+// The clues to begin with: the last two bytes; or, if the first entry is alike, the byte that differs there and the last.
+fn first_clues(s: &[u8], name: &[u8]) -> Clues
+    requires { ⌜ length (now name) < length (now s) ⌝ }
     ensures { λ r. ⌜ CluesOf (now (name .entry)) r ⌝ }
 {
-    clues_at(name, difference(s, at, name), c.first.at)
+    let last = name.len();
+    if alike(s, name) {
+        return clues_at(name, difference(s, 0, name), last);
+    }
+    clues_at(name, last, previous(last))
 }
 
-// The first of `places` places where the name is an entry; `places` if there is none.
-pub fn first_entry(s: &[u8], places: usize, name: &[u8]) -> usize
-    requires { ⌜ places + length (now name) ≤ length (now s) ⌝ }
-    ensures { λ r. ⌜ FirstEntry (now (s .entry)) (now (name .entry)) places r ⌝ }
+// The clues to go on with after a place that has the clues and is no entry: what differs there is now one of them.
+fn sharper(s: &[u8], place: usize, name: &[u8], c: Clues) -> Clues
+    requires { ⌜ (place + length (now name) < length (now s)) × CluesOf (now name) c ⌝ }
+    ensures { λ r. ⌜ CluesOf (now (name .entry)) r ⌝ }
 {
-    let mut c = last_bytes(name);
-    let mut at = next_place(s, 0, places, c);
-    while at < places {
-        if entry_at(s, at, name) {
-            return at;
-        }
-        c = sharper(s, at, name, c);
-        at = next_place(s, at + 1, places, c);
+    clues_at(name, difference(s, place, name), c.first.at)
+}
+
+// The first place where the name is an entry; the length of the strings if there is none.
+pub fn first_entry(s: &[u8], name: &[u8]) -> usize
+    ensures { λ r. ⌜ FirstEntry (now (s .entry)) (now (name .entry)) r ⌝ }
+{
+    let n = name.len();
+    if s.len() <= n {
+        return s.len();
     }
-    at
+    if starts_with(s, name) {
+        return 0;
+    }
+    let gaps = s.len() - n - 1;
+    let mut c = first_clues(s, name);
+    let mut gap = next_gap(s, 0, gaps, c);
+    while gap < gaps {
+        let place = gap + 1;
+        if entry_at(s, place, name) {
+            return place;
+        }
+        c = sharper(s, place, name, c);
+        gap = next_gap(s, place, gaps, c);
+    }
+    s.len()
 }

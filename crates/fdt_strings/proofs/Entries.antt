@@ -3,11 +3,11 @@ use mathlib.Core.Path.{_≡_, refl, sym, ap, _∙_}
 use mathlib.Core.Bool.{Bool, true, false, cond, and-eq-true-iff, false≢true, true≢false}
 use mathlib.Core.List.{List, [], _∷_, _++_, append-assoc, append-nil, List·Memᴰ, List·Memᴰ·head, List·Memᴰ·tail}
 use mathlib.Core.Logic.{_↔_}
-use Prim.Native.Nat.{ℕ, suc, _+_, _-_, _≤_, _<_}
+use Prim.Native.Nat.{ℕ, _+_, _-_, _≤_, _<_}
 use native.Mathlib.Omega.{arith}
 use borrow.Author.Tests.{eq-eqb, ne-eqb, eqb-true, eqb-false}
-use lib.ListN.{length, take, drop, length-append, length-drop, drop-of-length-le}
-use lib.Seq.{append-snoc, drop-drop, take-length, length-take-le}
+use lib.ListN.{length, getD, length-append}
+use lib.Seq.{append-snoc, getD-at}
 use lib.Dec.{eqb}
 use Rattle.fdt_strings.specs.Entries.{foundValues, entry, withByte, entries, same, firstFrom, findString, joined, NoZero, no-byte, next-byte}
 use Rattle.fdt_strings.specs.declared.Found.{Found}
@@ -100,6 +100,11 @@ pub whole-joined : (es : List (List ℕ)) → Whole (joined es)
 unfolding joined
 whole-joined [] = empty
 whole-joined (e ∷ es) = whole-append (ended e) (whole-joined es)
+
+pub whole-last : {s : List ℕ} {n : ℕ} → Whole s → length s ≡ n → 0 < n → getD s (n - 1) 0 ≡ 0
+unfolding entry
+whole-last empty e h = absurd (omega arith)
+whole-last (ended s) e h = getD-at s 0 [] 0 _ (omega (arith, length-append s (0 ∷ [])))
 
 -- strings that end in 0 have an entry
 some-entry : (s : List ℕ) → (e : List ℕ) × (es : List (List ℕ)) × (entries (entry s) ≡ e ∷ es)

@@ -1,15 +1,15 @@
 -- A name is found at the first place where it is an entry, as bytes say it (`EntryAt` of fdt_search).
 use mathlib.Core.Path.{_≡_, refl, sym, ap, _∙_}
-use mathlib.Core.List.{List, [], _∷_, _++_, append-assoc}
+use mathlib.Core.List.{List, [], _∷_, _++_}
 use Prim.Native.Nat.{ℕ, zero, suc, _+_, _-_, _≤_, _<_}
 use native.Mathlib.Omega.{arith}
-use lib.ListN.{length, take, drop, getD, List·getD-append, take-append-drop, length-append, length-drop}
+use lib.ListN.{length, take, drop, getD, List·getD-append, take-append-drop, length-drop}
 use lib.Seq.{take-suc, drop-at, drop-cons, drop-drop, getD-at, getD-take, getD-drop, length-take-le, ext-getD}
-use Rattle.fdt_search.specs.FirstEntry.{PlainByte, EntryAt, NoEntry}
+use Rattle.fdt_search.specs.FirstEntry.{EntryAt, NoEntry}
 use Rattle.fdt_strings.specs.Entries.{entry, findString, NoZero, no-byte, next-byte}
 use Rattle.fdt_strings.specs.declared.Found.{Found}
 use Rattle.fdt_strings.specs.declared.Found.the-variants.{At, Nothing}
-use Rattle.fdt_strings.proofs.Entries.{length-entry, Whole, empty, ended, found-stands, stands-found, stands-fits, found-append}
+use Rattle.fdt_strings.proofs.Entries.{length-entry, Whole, empty, ended, whole-last, found-stands, stands-found, stands-fits, found-append}
 
 zero-free : {s : List ℕ} → NoZero s → (k : ℕ) → k < length s → getD s k 0 ≡ 0 → ⊥
 zero-free no-byte k l e = absurd (omega arith)
@@ -19,12 +19,6 @@ zero-free (next-byte h n) (suc k) l e = zero-free n k (omega arith) e
 no-zero : (s : List ℕ) → ((k : ℕ) → k < length s → getD s k 0 ≡ 0 → ⊥) → NoZero s
 no-zero [] h = no-byte
 no-zero (b ∷ s) h = let n : 0 < b = omega (arith, h 0 (omega arith)) in next-byte n (no-zero s (λ k l. h (suc k) (omega arith)))
-
--- whole strings end with a 0
-whole-last : {s : List ℕ} (t : List ℕ) {n : ℕ} → Whole s → length s ≡ n → 0 < n → getD (s ++ t) (n - 1) 0 ≡ 0
-unfolding entry
-whole-last t empty e h = absurd (omega arith)
-whole-last t (ended s) e h = rw (append-assoc s (0 ∷ []) t) (getD-at s 0 t 0 _ (omega (arith, length-append s (0 ∷ []))))
 
 whole-take : (s : List ℕ) (i : ℕ) → i ≤ length s → (0 < i → getD s (i - 1) 0 ≡ 0) → Whole (take i s)
 unfolding entry
@@ -41,7 +35,7 @@ module _ (s name : List ℕ) where
         fits = omega (arith, length-entry name, stands-fits w);
         bytes = λ k l. record { same = byte k ∙ List·getD-append name _ 0 k l; plain = zero-free (w .plain) k l };
         ended = byte (length name) ∙ getD-at name 0 (w .behind) 0 (length name) refl;
-        begun = λ k. ap (λ (l : List ℕ). getD l (i - 1) 0) (w .split) ∙ whole-last _ (w .starts) (w .place) k;
+        begun = λ k. ap (λ (l : List ℕ). getD l (i - 1) 0) (w .split) ∙ List·getD-append (w .before) _ 0 (i - 1) (omega (arith, w .place)) ∙ whole-last (w .starts) (w .place) k;
       }
 
   -- the strings, cut at an entry
@@ -78,8 +72,8 @@ module _ (s name : List ℕ) where
             first = e;
           })
 
-  pub no-entry : ((i : ℕ) → EntryAt s name i → ⊥) → findString s name ≡ Nothing
-  no-entry none = go (findString s name) refl
+  pub entry-nowhere : ((i : ℕ) → EntryAt s name i → ⊥) → findString s name ≡ Nothing
+  entry-nowhere none = go (findString s name) refl
     where
       go : (f : Found) → findString s name ≡ f → f ≡ Nothing
       go (At i) e = absurd (none i (found-entry i e))

@@ -23,13 +23,8 @@ pub enum Interned {
 pub fn find_string(strings: &[u8], name: &[u8]) -> Found
     ensures { λ r. ⌜ r ≡ findString (now (strings .entry)) (now (name .entry)) ⌝ }
 {
-    let n = name.len();
-    if strings.len() < n {
-        return Found::Nothing;
-    }
-    let places = strings.len() - n;
-    let at = fdt_search::first_entry(strings, places, name);
-    if at < places {
+    let at = fdt_search::first_entry(strings, name);
+    if at < strings.len() {
         return Found::At(at);
     }
     Found::Nothing

@@ -6,10 +6,10 @@ use Rattle.fdt_search.proofs.difference.Statement.{statement}
 use Rattle.fdt_search.proofs.difference.Tie as tie
 
 abbrev Inv-loop : tie.InvT-loop
-Inv-loop s at name i₀ i = i ≤ length name
+Inv-loop s place name i₀ i = i ≤ length name
 
 abbrev μ-loop : tie.MeasureT-loop
-μ-loop s at name i₀ i = length name - i
+μ-loop s place name i₀ i = length name - i
 
 pub difference-spec : {M : Type 1} → statement M
 difference-spec =
@@ -18,4 +18,4 @@ difference-spec =
     Inv-loop
     μ-loop
     (λ c. search needs) (λ c. search needs) (λ c. search needs) (λ c. search needs) (λ c. search needs)
-    (λ c. search needs) (λ c. search needs) (λ c. search needs) (λ c. search needs))
+    (λ c. search needs) (λ c. search needs) (λ c. search needs) (λ c. search needs) (λ c. search needs))

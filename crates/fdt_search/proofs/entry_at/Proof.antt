@@ -10,12 +10,12 @@ returns : tie.Need-returns
 returns c = (λ e. absurd (false≢true e), λ w. absurd (c .if1 .taken (w .ended)))
 
 returns-2 : tie.Need-returns-2
-returns-2 c = (λ e. absurd (false≢true e), λ w. absurd (c .if3 .taken (w .begun (c .before .before .if2 .taken))))
+returns-2 c = (λ e. absurd (false≢true e), λ w. absurd (c .if3 .taken (w .begun (omega arith))))
 
 returns-3 : tie.Need-returns-3
 returns-3 c = (
   λ e. record {
-    fits = c .before .before .before .before .before .before .pre;
+    fits = omega arith;
     bytes = c .same-plain .ensures .0 e;
     ended = c .before .before .if1 .left;
     begun = λ h. ⊎-elim (λ w. w .2 .left) (λ w. absurd (omega arith)) (c .before .if2 .came);

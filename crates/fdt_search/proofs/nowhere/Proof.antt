@@ -1,4 +1,4 @@
--- `nowhere` meets its contract. The invariant: if `none` is still true, none of the places before `from + k` has the clues.
+-- `nowhere` meets its contract. The invariant: if `none` is still true, none of the gaps before `from + k` has the clues.
 use mathlib.Core.Path.{_≡_}
 use mathlib.Core.Bool.{true}
 use Prim.Native.Nat.{_+_, _-_, _≤_}
@@ -16,13 +16,13 @@ abbrev μ-loop : tie.MeasureT-loop
 μ-loop s from c none₀ k₀ none k = 32 - k
 
 loop-holds : tie.Need-loop-holds Inv-loop μ-loop
-loop-holds c = (omega arith, λ e place h k w. omega arith)
+loop-holds c = (omega arith, λ e gap l h w. omega arith)
 
 loop-again : tie.Need-loop-again Inv-loop μ-loop
 loop-again c = let l = c .before .before .loop in (omega arith, nowhere-and _ _ _ (l .k) (l .none) _ (l .inv .1) (c .has-clues .ensures))
 
 returns : tie.Need-returns Inv-loop μ-loop
-returns c e place h k w = c .before .loop .inv .1 e place h (omega arith) w
+returns c e gap l = c .before .loop .inv .1 e gap (omega arith)
 
 pub nowhere-spec : {M : Type 1} → statement M
 nowhere-spec =

@@ -12,10 +12,10 @@ use Rattle.fdt_search.proofs.same_plain.Statement.{statement}
 use Rattle.fdt_search.proofs.same_plain.Tie as tie
 
 abbrev Inv-loop : tie.InvT-loop
-Inv-loop s at name good₀ i₀ good i = (i ≤ length name) × (good ≡ true ↔ ((k : ℕ) → k < i → PlainByte s name at k))
+Inv-loop s place name good₀ i₀ good i = (i ≤ length name) × (good ≡ true ↔ ((k : ℕ) → k < i → PlainByte s name place k))
 
 abbrev μ-loop : tie.MeasureT-loop
-μ-loop s at name good₀ i₀ good i = length name - i
+μ-loop s place name good₀ i₀ good i = length name - i
 
 loop-holds : tie.Need-loop-holds Inv-loop μ-loop
 loop-holds c = (omega arith, (λ e k l. absurd (omega arith), λ all. refl))

@@ -1,25 +1,25 @@
--- `next_place` meets its contract. The invariant: no place before `at` has the clues.
-use Prim.Native.Nat.{_-_, _≤_}
+-- `next_gap` meets its contract. The invariant: no gap before `at` has the clues.
+use Prim.Native.Nat.{_-_}
 use native.Mathlib.Omega.{arith}
 use borrow.Author.Needs.{needs}
 use borrow.Author.Tests.{not-false}
-use Rattle.fdt_search.specs.Clues.{NextPlace}
+use Rattle.fdt_search.specs.Clues.{NextGap}
 use Rattle.fdt_search.proofs.Search.{nowhere-join}
-use Rattle.fdt_search.proofs.next_place.Statement.{statement}
-use Rattle.fdt_search.proofs.next_place.Tie as tie
+use Rattle.fdt_search.proofs.next_gap.Statement.{statement}
+use Rattle.fdt_search.proofs.next_gap.Tie as tie
 
 abbrev Inv-loop : tie.InvT-loop
-Inv-loop s from to c at₀ at = NextPlace s c from to at
+Inv-loop s from to c at₀ at = NextGap s c from to at
 
 abbrev μ-loop : tie.MeasureT-loop
 μ-loop s from to c at₀ at = to - at
 
 loop-holds : tie.Need-loop-holds Inv-loop μ-loop
-loop-holds c = (omega arith, omega arith, λ place h k w. omega arith)
+loop-holds c = (omega arith, omega arith, λ gap l h w. omega arith)
 
 returns : tie.Need-returns Inv-loop μ-loop
 returns c =
-    let found = c .place-between .ensures in
+    let found = c .gap-between .ensures in
     let l = c .before .before .before .before .loop in
     (omega arith, omega arith, nowhere-join _ _ _ (l .at) _ (l .inv .2) (found .2))
 
@@ -31,10 +31,10 @@ loop-again c =
 returns-2 : tie.Need-returns-2 Inv-loop μ-loop
 returns-2 c =
     let l = c .before .before .loop in
-    (omega arith, omega arith, nowhere-join _ _ _ (l .at) _ (l .inv .2) (c .place-between2 .ensures .2))
+    (omega arith, omega arith, nowhere-join _ _ _ (l .at) _ (l .inv .2) (c .gap-between2 .ensures .2))
 
-pub next-place-spec : {M : Type 1} → statement M
-next-place-spec =
+pub next-gap-spec : {M : Type 1} → statement M
+next-gap-spec =
     tie.close
     (tie.spec
     Inv-loop
