@@ -6,7 +6,7 @@ use lib.ListN.{length, getD}
 use Rattle.fdt_search.specs.declared.Clue.{Clue}
 use Rattle.fdt_search.specs.declared.Clues.{Clues}
 
--- the clue is a byte of the name, the 0 before it or the 0 after it, which `getD` gives at the end
+-- the clue is the 0 before the name, a byte of it, or the 0 after it, which `getD` gives at the end
 pub record ClueOf (name : List ℕ) (c : Clue) : Type 0 where
   pub inside : c .at ≤ length name + 1
   pub right : c .byte ≡ getD (0 ∷ name) (c .at) 0

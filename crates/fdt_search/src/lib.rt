@@ -1,5 +1,5 @@
 // The search for a name in the strings area. It looks for two bytes of the name and the 0 after it, at 32 places at a time,
-// and compares the whole entry only where they are.
+// and compares the whole entry only where they are. A gap is the place before an entry, which has the 0 of the one before.
 ghost use mathlib.Core.Path.{_≡_};
 ghost use mathlib.Core.Bool.{true};
 ghost use mathlib.Core.Logic.{_↔_};
@@ -11,7 +11,7 @@ ghost use Rattle.fdt_search.specs.FirstEntry.{PlainByte, EntryAt, FirstE
 // The byte after each entry.
 const END: u8 = 0;
 
-// A byte to look for, and its place: 0 is the 0 before the name, then come the name and the 0 after it.
+// A byte to look for, and its place from the gap on: 0 is the 0 there, then come the name and the 0 after it.
 struct Clue {
     at: usize,
     byte: u8,
@@ -24,7 +24,7 @@ struct Clues {
     end: Clue,
 }
 
-// The clue of a name at a place.
+// The clue of a name at a place from the gap on.
 fn clue_of(name: &[u8], at: usize) -> Clue
     requires { ⌜ at ≤ length (now name) + 1 ⌝ }
     ensures { λ r. ⌜ ClueOf (now (name .entry)) r ⌝ }
@@ -173,7 +173,7 @@ fn starts_with(s: &[u8], name: &[u8]) -> bool
     entry_at(s, 0, name)
 }
 
-// The clue's place of the first byte of the name that differs from the bytes at a place; that of the 0 before it if none does.
+// Where the first byte of the name that differs from the bytes at a place is from the gap on; 0, the gap itself, if none does.
 fn difference(s: &[u8], place: usize, name: &[u8]) -> usize
     requires { ⌜ place + length (now name) ≤ length (now s) ⌝ }
     ensures { λ r. ⌜ r ≤ length (now (name .entry)) ⌝ }
