@@ -1,5 +1,5 @@
-# What tools/compare, tools/compare-reader, tools/outside, tools/mutants and tools/oracle/sample share: building a judge,
-# making lists, running programs, comparing what both write.
+# What tools/compare, tools/compare-reader, tools/compare-search, tools/outside, tools/mutants and tools/oracle/sample
+# share: building a judge, making lists, running programs, comparing what both write.
 import argparse
 import collections
 import concurrent.futures
@@ -8,6 +8,7 @@ import re
 import shutil
 import subprocess
 import sys
+import textwrap
 import time
 
 TOP = os.path.dirname(os.path.dirname(os.path.dirname(os.path.abspath(__file__))))
@@ -76,10 +77,10 @@ def built(folder, judge="oracle"):
 
 
 class Kind:
-    """A program that runs lists, its judge, and the tool that compares them: the lists made whole, those made in parts, and which lines of a list write a line."""
+    """A program that runs lists, its judge, and the tool that compares them: the lists made whole, those made in parts, which lines of a list write a line, and how many random lists are usual."""
 
-    def __init__(self, program, judge, tool, whole, in_parts, told):
-        self.program, self.judge, self.tool, self.whole, self.in_parts, self.told = program, judge, tool, whole, in_parts, told
+    def __init__(self, program, judge, tool, whole, in_parts, told, seeds):
+        self.program, self.judge, self.tool, self.whole, self.in_parts, self.told, self.seeds = program, judge, tool, whole, in_parts, told, seeds
 
     def lists(self, judge, seeds, short):
         """The lists by name: how each is generated."""
@@ -140,7 +141,7 @@ class Kind:
         """The command line of the tool."""
         folder = os.path.join("build", self.tool)
         parser = argparse.ArgumentParser(prog="tools/" + self.tool, description=text, epilog=status, formatter_class=argparse.RawDescriptionHelpFormatter)
-        parser.add_argument("seeds", nargs="?", type=seeds_of, default=seeds_of("8"), metavar="SEEDS", help="how many seeds, or FIRST-LAST (default: 8)")
+        parser.add_argument("seeds", nargs="?", type=seeds_of, default=seeds_of(self.seeds), metavar="SEEDS", help=f"how many seeds, or FIRST-LAST (default: {self.seeds})")
         parser.add_argument("--program", default=os.path.join(BIN, self.program), metavar="FILE", help=f"the program to compare (default: target/bin/{self.program})")
         parser.add_argument("--keep", default=os.path.join(TOP, folder), metavar="FOLDER", help=f"where to keep lists that differ (default: {folder})")
         parser.add_argument("--jobs", type=int, default=min(2, os.cpu_count() or 1), metavar="N", help="how many lists to run at a time (default: 2)")
@@ -163,8 +164,9 @@ class Kind:
             return trouble.status
 
 
-REPLAY = Kind("test_replay", "oracle", "compare", ["names", "corners"], ["calls"], rb"(new|begin|end|property|finish|show)|set_boot")
-READER = Kind("test_reader", "reader", "compare-reader", ["examples", "cut"], ["bytes", "words"], rb"(?!(put|lend) )")
+REPLAY = Kind("test_replay", "oracle", "compare", ["names", "corners"], ["calls"], rb"(new|begin|end|property|finish|show)|set_boot", "8")
+READER = Kind("test_reader", "reader", "compare-reader", ["examples", "cut"], ["bytes", "words"], rb"(?!(put|lend) )", "8")
+SEARCH = Kind("test_leaves", "search", "compare-search", [], ["corners", "borders", "places", "alike", "names"], rb"", "64")
 
 
 def counts(path):
@@ -180,6 +182,33 @@ def check_counts(wanted, found, table):
         raise Trouble(1, "these did not occur: " + told(wanted - found))
     if found - wanted:
         raise Trouble(1, f"these occurred, and {table} does not list them: " + told(found - wanted))
+
+
+def expected_causes(path):
+    """A table of answers with their causes and corners that must occur: the keys of the counts."""
+    wanted = set()
+    with open(path, encoding="ascii") as f:
+        for line in f:
+            answer, colon, causes = line.split("#")[0].partition(":")
+            wanted |= {(answer.strip(), cause) for cause in ["", *causes.split()] if colon}
+    return wanted
+
+
+def print_causes(total, what):
+    """Prints how often each answer was given, and for which cause or at which corner."""
+    by_number = lambda answer: [int(word) if word.isdigit() else word for word in answer.split()]
+    for answer in sorted({k[0] for k in total}, key=by_number):
+        causes = ", ".join(f"{k[1]}:{n}" for k, n in sorted(total.items()) if k[0] == answer and k[1])
+        print(f"{answer}: {total[answer, '']} {what}")
+        print(textwrap.indent(textwrap.fill(causes, 112, break_on_hyphens=False), "    ").replace(":", " "))
+
+
+def causes_verdict(total, any_counts, what, table):
+    """Prints and checks answers and their causes: how many answers there were."""
+    if not any_counts:
+        print_causes(total, what)
+        check_counts(expected_causes(os.path.join(TOP, table)), {k for k in total if k[1] != "several"}, table)
+    return f"{sum(n for k, n in total.items() if not k[1])} {what}"
 
 
 def load(path):

@@ -1,4 +1,4 @@
-// What both judges share: the words of a list, the check value, random numbers.
+// What the judges share: the words of a list, the check value, random numbers.
 
 // The longest list that a program reads.
 pub const LONGEST: usize = 1_048_575;
