@@ -173,7 +173,7 @@ fn starts_with(s: &[u8], name: &[u8]) -> bool
     entry_at(s, 0, name)
 }
 
-// Where the first byte of the name that differs from the bytes at a place is from the gap on; 0, the gap itself, if none does.
+// The place, from the gap on, of the first byte that differs from the name at a place; 0, the gap, if no byte of the name does.
 fn difference(s: &[u8], place: usize, name: &[u8]) -> usize
     requires { ⌜ place + length (now name) ≤ length (now s) ⌝ }
     ensures { λ r. ⌜ r ≤ length (now (name .entry)) ⌝ }
