@@ -7,7 +7,7 @@ help:
 	@echo 'make test                the merge gate; if all is well its last line is: N passed, 0 failed'
 	@echo 'make compare SEEDS=20    run test_replay and the original crate on 20 random lists and all short ones (default: 8);'
 	@echo '                         then test_reader and a model of the reading on as many lists of blobs;'
-	@echo '                         then test_leaves and a model of the search and the name tests on as many (default: 64)'
+	@echo '                         then test_leaves and a model of the search and the name tests, likewise (default: 64)'
 	@echo 'make outside             let dtc and libfdt read finished blobs, and compare the reader with them'
 	@echo 'make mutants             find the list that catches each wrong program: docs/COMPARISON.md (takes long)'
 	@echo 'make bench ROUNDS=41     time a build beside the original crate, and a reading beside libfdt: docs/PERFORMANCE.md'

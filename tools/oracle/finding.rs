@@ -151,7 +151,7 @@ fn of_missing(strings: &[u8], name: &[u8], rest: &[u8]) -> Vec<&'static str> {
         (name.contains(&0), "zero-in-name"),
         ((0..strings.len()).any(across), "zero-in-name-between-entries"),
         (!name.is_empty() && rest == name, "unended"),
-        (rest.len() > name.len() && rest.ends_with(name), "unended-tail"),
+        (!name.is_empty() && rest.len() > name.len() && rest.ends_with(name), "unended-tail"),
     ])
 }
 

@@ -1,6 +1,6 @@
 // What the judges share: the words of a list, the check value, random numbers.
 
-// The longest list that a program reads.
+// The longest list that test_replay and test_reader read.
 pub const LONGEST: usize = 1_048_575;
 
 // The check value of bytes: 64-bit FNV-1a.

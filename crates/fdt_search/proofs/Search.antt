@@ -31,13 +31,13 @@ own-byte name (suc k) h = let e : suc k - 1 ≡ k = omega arith in rw e refl
 pub clues-test :
     (s : List ℕ) (c : Clues) (gap : ℕ) →
     ((eqb (getD s (gap + c .first .at) 0) (c .first .byte) && eqb (getD s (gap + c .second .at) 0) (c .second .byte))
-    && eqb (getD s (gap + c .end .at) 0) (c .end .byte)) ≡ true ↔ HasClues s c gap
+    && eqb (getD s (gap + c .third .at) 0) (c .third .byte)) ≡ true ↔ HasClues s c gap
 clues-test s c gap = (
   λ h.
       let p = and-eq-true-iff _ _ .0 h in
       let q = and-eq-true-iff _ _ .0 (p .0) in
-      record { first = eqb-true _ _ (q .0); second = eqb-true _ _ (q .1); end = eqb-true _ _ (p .1) },
-  λ w. simp (eq-eqb _ _ (w .first), eq-eqb _ _ (w .second), eq-eqb _ _ (w .end)),
+      record { first = eqb-true _ _ (q .0); second = eqb-true _ _ (q .1); third = eqb-true _ _ (p .1) },
+  λ w. simp (eq-eqb _ _ (w .first), eq-eqb _ _ (w .second), eq-eqb _ _ (w .third)),
 )
 
 module _ (s : List ℕ) (c : Clues) (from : ℕ) where
@@ -86,7 +86,7 @@ module _ (s name : List ℕ) where
   entry-clues : (c : Clues) (gap : ℕ) → CluesOf name c → EntryAt s name (gap + 1) → HasClues s c gap
   entry-clues c gap own w =
       let clue : (d : Clue) → ClueOf name d → getD s (gap + d .at) 0 ≡ d .byte = λ d o. entry-byte gap w (d .at) (o .inside) ∙ sym (o .right) in
-      record { first = clue _ (own .first); second = clue _ (own .second); end = clue _ (own .end) }
+      record { first = clue _ (own .first); second = clue _ (own .second); third = clue _ (own .third) }
 
   -- no entry is after gaps that do not have the clues
   pub no-entry-nowhere :

@@ -15,13 +15,13 @@ pub record ClueOf (name : List ℕ) (c : Clue) : Type 0 where
 pub record CluesOf (name : List ℕ) (c : Clues) : Type 0 where
   pub first : ClueOf name (c .first)
   pub second : ClueOf name (c .second)
-  pub end : ClueOf name (c .end)
+  pub third : ClueOf name (c .third)
 
 -- the bytes from `gap` on have all three clues
 pub record HasClues (s : List ℕ) (c : Clues) (gap : ℕ) : Type 0 where
   pub first : getD s (gap + c .first .at) 0 ≡ c .first .byte
   pub second : getD s (gap + c .second .at) 0 ≡ c .second .byte
-  pub end : getD s (gap + c .end .at) 0 ≡ c .end .byte
+  pub third : getD s (gap + c .third .at) 0 ≡ c .third .byte
 
 -- no gap from `from` on and before `to` has the clues
 abbrev pub Nowhere : List ℕ → Clues → ℕ → ℕ → Type 0
@@ -35,4 +35,4 @@ NextGap s c from to gap = (from ≤ gap) × (gap ≤ to) × Nowhere s c from gap
 pub record Readable (s : List ℕ) (c : Clues) (to : ℕ) : Type 0 where
   pub first : to + c .first .at ≤ length s
   pub second : to + c .second .at ≤ length s
-  pub end : to + c .end .at ≤ length s
+  pub third : to + c .third .at ≤ length s

@@ -1,9 +1,9 @@
-// The search for a name in the strings area. It looks for two bytes of the name and the 0 after it, at 32 places at a time,
-// and compares the whole entry only where they are. A gap is the place before an entry, which has the 0 of the one before.
+// The search for a name in the strings area. It looks for three bytes at 32 gaps at a time, and compares the whole entry
+// only where all three are. A gap is the place before the name: if the name is an entry there, the gap has a 0.
 ghost use mathlib.Core.Path.{_≡_};
 ghost use mathlib.Core.Bool.{true};
 ghost use mathlib.Core.Logic.{_↔_};
-ghost use Prim.Native.Nat.{ℕ, _+_, _≤_, _<_, _^_};
+ghost use Prim.Native.Nat.{ℕ, _+_, _≤_, _<_};
 ghost use lib.ListN.{length};
 ghost use Rattle.fdt_search.specs.Clues.{ClueOf, CluesOf, HasClues, Nowhere, NextGap, Readable};
 ghost use Rattle.fdt_search.specs.FirstEntry.{PlainByte, EntryAt, FirstEntry};
@@ -11,20 +11,20 @@ ghost use Rattle.fdt_search.specs.FirstEntry.{PlainByte, EntryAt, FirstE
 // The byte after each entry.
 const END: u8 = 0;
 
-// A byte to look for, and its place from the gap on: 0 is the 0 there, then come the name and the 0 after it.
+// A byte to look for, and its place counted from the gap: at 0 the 0 before the name, then the name, then the 0 after it.
 struct Clue {
     at: usize,
     byte: u8,
 }
 
-// Three bytes to look for. The last one is the 0 after the name.
+// Three bytes to look for, the newest first.
 struct Clues {
     first: Clue,
     second: Clue,
-    end: Clue,
+    third: Clue,
 }
 
-// The clue of a name at a place from the gap on.
+// The clue of a name at a place counted from the gap.
 fn clue_of(name: &[u8], at: usize) -> Clue
     requires { ⌜ at ≤ length (now name) + 1 ⌝ }
     ensures { λ r. ⌜ ClueOf (now (name .entry)) r ⌝ }
@@ -51,15 +51,15 @@ fn previous(n: usize) -> usize
     n - 1
 }
 
-// The clues of a name at two places and at its end.
-fn clues_at(name: &[u8], first: usize, second: usize) -> Clues
-    requires { ⌜ (first ≤ length (now name) + 1) × (second ≤ length (now name) + 1) × (length (now name) + 1 < 2 ^ 64) ⌝ }
+// The clues of a name at three places counted from the gap.
+fn clues_at(name: &[u8], first: usize, second: usize, third: usize) -> Clues
+    requires { ⌜ (first ≤ length (now name) + 1) × (second ≤ length (now name) + 1) × (third ≤ length (now name) + 1) ⌝ }
     ensures { λ r. ⌜ CluesOf (now (name .entry)) r ⌝ }
 {
     Clues {
         first: clue_of(name, first),
         second: clue_of(name, second),
-        end: clue_of(name, name.len() + 1),
+        third: clue_of(name, third),
     }
 }
 
@@ -70,7 +70,7 @@ fn has_clues(s: &[u8], gap: usize, c: Clues) -> bool
 {
     (s[gap + c.first.at] == c.first.byte)
         & (s[gap + c.second.at] == c.second.byte)
-        & (s[gap + c.end.at] == c.end.byte)
+        & (s[gap + c.third.at] == c.third.byte)
 }
 
 // True only if none of 32 gaps has the clues. Every gap is tested, so that many can be tested at once.
@@ -147,7 +147,7 @@ fn entry_at(s: &[u8], place: usize, name: &[u8]) -> bool
     same_plain(s, place, name)
 }
 
-// Whether the last byte of the name and a 0 are where they are if the name is the first entry.
+// Whether the strings have the last byte of the name and a 0 where they are if the name is the first entry.
 fn alike(s: &[u8], name: &[u8]) -> bool
     requires { ⌜ length (now name) < length (now s) ⌝ }
     ensures { λ r. ⌜ (EntryAt (now (s .entry)) (now (name .entry)) 0 → r ≡ true) ⌝ }
@@ -173,7 +173,7 @@ fn starts_with(s: &[u8], name: &[u8]) -> bool
     entry_at(s, 0, name)
 }
 
-// The place, from the gap on, of the first byte that differs from the name at a place; 0, the gap, if no byte of the name does.
+// Where the bytes at a place first differ from the name, counted from the gap before it; 0 if they do not.
 fn difference(s: &[u8], place: usize, name: &[u8]) -> usize
     requires { ⌜ place + length (now name) ≤ length (now s) ⌝ }
     ensures { λ r. ⌜ r ≤ length (now (name .entry)) ⌝ }
@@ -188,24 +188,25 @@ fn difference(s: &[u8], place: usize, name: &[u8]) -> usize
     0
 }
 
-// The clues to begin with: the last two bytes; or, if the first entry is alike, the byte that differs there and the last.
+// The clues after a place that has the clues and is no entry: what differs there takes the place of the oldest.
+fn sharper(s: &[u8], place: usize, name: &[u8], c: Clues) -> Clues
+    requires { ⌜ (place + length (now name) ≤ length (now s)) × CluesOf (now name) c ⌝ }
+    ensures { λ r. ⌜ CluesOf (now (name .entry)) r ⌝ }
+{
+    clues_at(name, difference(s, place, name), c.first.at, c.second.at)
+}
+
+// The clues to begin with: the last two bytes of the name and the 0 after it, or sharper ones if the first entry is alike.
 fn first_clues(s: &[u8], name: &[u8]) -> Clues
     requires { ⌜ length (now name) < length (now s) ⌝ }
     ensures { λ r. ⌜ CluesOf (now (name .entry)) r ⌝ }
 {
     let last = name.len();
+    let c = clues_at(name, last, previous(last), last + 1);
     if alike(s, name) {
-        return clues_at(name, difference(s, 0, name), last);
+        return sharper(s, 0, name, c);
     }
-    clues_at(name, last, previous(last))
-}
-
-// The clues to go on with after a place that has the clues and is no entry: what differs there is now one of them.
-fn sharper(s: &[u8], place: usize, name: &[u8], c: Clues) -> Clues
-    requires { ⌜ (place + length (now name) < length (now s)) × CluesOf (now name) c ⌝ }
-    ensures { λ r. ⌜ CluesOf (now (name .entry)) r ⌝ }
-{
-    clues_at(name, difference(s, place, name), c.first.at)
+    c
 }
 
 // The first place where the name is an entry; the length of the strings if there is none.
