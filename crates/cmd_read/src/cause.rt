@@ -12,7 +12,7 @@ use text_words::out;
 use text_words::out::Out;
 
 // The causes, a row each. `#` stands for the cause's number, `$` for the same in hexadecimal, and `%` for the length of the blob.
-const CAUSES: [u8; 955] = *b"a header has 40 bytes, and the blob has %\n\
+const CAUSES: [u8; 958] = *b"a header has 40 bytes, and the blob has %\n\
     the magic number is 0x$, not 0xd00dfeed\n\
     the total size is #, and the blob has % bytes\n\
     the version is #, not 17\n\
@@ -23,7 +23,7 @@ const CAUSES: [u8; 955] = *b"a header has 40 bytes, and the blob has %\n\
     the strings end at #, past the end of the blob\n\
     no pair of zeros ends the reservations inside the blob\n\
     the structure ends without the final word 9\n\
-    word # is none of the tokens 1, 2, 3 and 9\n\
+    word # is none of the tokens 1, 2, 3, 4 and 9\n\
     the node's name with its padding does not end inside the structure\n\
     no node is open that could end here\n\
     the property with its padding does not end inside the structure\n\

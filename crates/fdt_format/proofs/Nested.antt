@@ -76,11 +76,14 @@ module _ (b : List ℕ) where
   -- by the token at a state, if the walk after it has its events in order
   here : (a : Areas) (on : State → Walk) (s : State) → Open s → ((s' : State) → Open s' → (ts : List Entry) → on s' ≡ good ts → Ordered s' (map (eventAt b) ts))
       → (x : Step) → Stepped b a s x → (ts : List Entry) → follow x on ≡ good ts → Ordered s (map (eventAt b) ts)
-  unfolding Stepped Ordered Accepted
+  unfolding Stepped Open Ordered Accepted
   here a on s o ih (step.Entry t s') k ts q =
       let p : Split t (on s') ts = split t (on s') ts q in
       let h : Ordered s' (map (eventAt b) (p .rest)) = ih s' (open-on (k .1) o) (p .rest) (p .is) in
       subst (λ (l : List Entry). Ordered s (map (eventAt b) l)) (p .all) (front (map (eventAt b) (p .rest)) (k .1) o h)
+  here a on s o ih (step.Skip s') k ts q =
+      let h : Ordered s' (map (eventAt b) ts) = ih s' (subst Open (sym (k .1)) o) ts q in
+      subst (λ (x : State). Ordered x (map (eventAt b) ts)) (k .1) h
   here a on s o ih step.Final k ts q = let n : [] ≡ ts = cc in rw (← n) k
   here a on s o ih (step.Bad r) k ts q = absurd (bad-not-good q)
 

@@ -6,7 +6,7 @@ use mathlib.Core.Logic.{_⊎_, inl, inr}
 use Prim.Native.Nat.{ℕ, zero, suc, _+_, _-_, _≤_, _<_}
 use native.Mathlib.Omega.{arith}
 use native.Mathlib.Numerals.{add-one}
-use borrow.Author.Tests.{ltb-false, leb-true, le-leb, eqb-true, eqb-false, eq-eqb, ne-eqb}
+use borrow.Author.Tests.{ltb-false, le-ltb, leb-true, le-leb, eqb-true, eqb-false, eq-eqb, ne-eqb}
 use lib.Dec.{eqb, leb, ltb}
 use lib.ListN.{getD, take, drop}
 use Rattle.fdt_bytes.specs.BigEndian.{wordAt}
@@ -21,8 +21,8 @@ use Rattle.fdt_format.specs.Description.{_≔_}
 use Rattle.fdt_format.specs.Events.{begins, has, ends}
 use Rattle.fdt_format.specs.Moves.{Moved, Kind, opens, adds, closes}
 use Rattle.fdt_format.specs.Reading.{nameAt, eventAt}
-use Rattle.fdt_format.specs.Step.{zeroFrom, wholeAt, sizeAt, beginAt, propertyAt, endAt, finalAt, stepAt}
-use Rattle.fdt_format.specs.Tokens.{beginToken, endToken, propertyToken, propertySize, finalToken}
+use Rattle.fdt_format.specs.Step.{zeroFrom, wholeAt, sizeAt, beginAt, propertyAt, endAt, past, skipAt, finalAt, stepAt}
+use Rattle.fdt_format.specs.Tokens.{beginToken, endToken, propertyToken, propertySize, skipToken, finalToken}
 
 -- what holds of both answers of a test
 pub by-test : {A : Type 0} (P : A → Type 0) (t : Bool) (a b : A) → (t ≡ true → P a) → (t ≡ false → P b) → P (cond t a b)
@@ -112,9 +112,10 @@ module _ (b : List ℕ) (t : Entry) where
 
 -- ---- how a token moves the state
 
--- an entry moves the place on, and begins a node, is a property or ends a node; the final word comes where no node is open; a token is refused only for its structure or its name offset
+-- an entry moves the place on, and begins a node, is a property or ends a node; a word that is skipped only moves the place on; the final word comes where no node is open; a token is refused only for its structure or its name offset
 unfoldable pub Stepped : List ℕ → Areas → State → Step → Type 0
 Stepped b a s (step.Entry t s') = Moved a s s' × Kind b s t s'
+Stepped b a s (step.Skip s') = Moved a s s' × (s' ≡ past s)
 Stepped b a s step.Final = s .depth ≡ 0
 Stepped b a s (step.Bad r) = (r ≡ Structure) ⊎ (r ≡ NameOffset)
 
@@ -157,6 +158,10 @@ module _ (b : List ℕ) (a : Areas) (s : State) where
         closes (event-ends b _ refl) (omega (arith, n)) refl,
       )
 
+  skip-stepped : ltb (a .«structure_end» - s .at) 4 ≡ false → Stepped b a s (skipAt s)
+  unfolding Stepped
+  skip-stepped k = (record { on = omega arith; within = omega (arith, ltb-false (a .«structure_end» - s .at) 4 k) }, refl)
+
   final-stepped : Stepped b a s (finalAt a s)
   unfolding finalAt Stepped
   final-stepped =
@@ -171,7 +176,13 @@ module _ (b : List ℕ) (a : Areas) (s : State) where
       λ k. by-test (Stepped b a s) (eqb word beginToken) _ _ (λ _. begin-stepped)
       λ _. by-test (Stepped b a s) (eqb word endToken) _ _ (λ _. end-stepped k)
       λ _. by-test (Stepped b a s) (eqb word propertyToken) _ _ (λ _. by-test (Stepped b a s) (s .«takes_property») _ _ property-stepped (λ _. inl refl))
+      λ _. by-test (Stepped b a s) (eqb word skipToken) _ _ (λ _. skip-stepped k)
       λ _. by-test (Stepped b a s) (eqb word finalToken) _ _ (λ _. final-stepped) (λ _. inl refl)
+
+  -- a whole word 4 inside the structure is skipped
+  pub step-skip : s .at + 4 ≤ a .«structure_end» → wordAt b (s .at) ≡ skipToken → stepAt b a s ≡ step.Skip (past s)
+  unfolding stepAt
+  step-skip h w = let whole : 4 ≤ a .«structure_end» - s .at = omega arith in rw (le-ltb _ _ whole, w)
 
   pub moved : {t : Entry} {s' : State} → stepAt b a s ≡ step.Entry t s' → Moved a s s'
   unfolding Stepped

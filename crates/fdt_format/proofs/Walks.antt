@@ -1,16 +1,18 @@
 -- The bound on a walk's tokens refuses nothing: each token moves the place on, and never past the structure's end.
 use mathlib.Core.Path.{_≡_, refl, sym, ap, _∙_}
 use mathlib.Core.List.{List}
-use Prim.Native.Nat.{ℕ, zero, suc, _-_, _<_}
+use Prim.Native.Nat.{ℕ, zero, suc, _+_, _-_, _≤_, _<_}
 use native.Mathlib.Omega.{arith}
 use Rattle.fdt_format.specs.declared.Areas.{Areas}
 use Rattle.fdt_format.specs.declared.State.{State}
 use Rattle.fdt_format.specs.declared.Step.{Step}
 use Rattle.fdt_format.specs.declared.Step.the-variants as step
 use Rattle.fdt_format.specs.Moves.{Moved}
-use Rattle.fdt_format.specs.Step.{stepAt}
+use Rattle.fdt_bytes.specs.BigEndian.{wordAt}
+use Rattle.fdt_format.specs.Step.{past, stepAt}
+use Rattle.fdt_format.specs.Tokens.{skipToken}
 use Rattle.fdt_format.specs.Walk.{Walk, more, follow, steps, walk}
-use Rattle.fdt_format.proofs.Steps.{Stepped, step-stepped}
+use Rattle.fdt_format.proofs.Steps.{Stepped, step-stepped, step-skip}
 
 -- ---- any walk, whatever it tells
 
@@ -42,6 +44,7 @@ module _
 follow-same : (b : List ℕ) (a : Areas) (s : State) (x : Step) → Stepped b a s x → (g h : State → Walk) → ((s' : State) → Moved a s s' → g s' ≡ h s') → follow x g ≡ follow x h
 unfolding Stepped
 follow-same b a s (step.Entry t s') m g h same = ap (more t) (same s' (m .0))
+follow-same b a s (step.Skip s') m g h same = same s' (m .0)
 follow-same b a s step.Final m g h same = refl
 follow-same b a s (step.Bad r) m g h same = refl
 
@@ -50,3 +53,7 @@ pub walk-step : (b : List ℕ) (a : Areas) (s : State) → walk b a s ≡ follow
 unfolding walk steps
 walk-step b a s =
     first-step a (λ (s : State). follow (stepAt b a s)) (λ s. follow-same b a s (stepAt b a s) (step-stepped b a s)) (steps (stepAt b a)) (λ _ _. refl) s
+
+-- a word 4 at any state describes nothing: the walk from there is the walk from 4 bytes on
+pub walk-skip : (b : List ℕ) (a : Areas) (s : State) → s .at + 4 ≤ a .«structure_end» → wordAt b (s .at) ≡ skipToken → walk b a s ≡ walk b a (past s)
+walk-skip b a s h w = walk-step b a s ∙ rw (step-skip b a s h w)

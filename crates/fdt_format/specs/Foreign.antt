@@ -109,6 +109,10 @@ unfoldable pub overlap : List ℕ
 overlap =
     cellBytes 4 (0xd00dfeed ∷ 0x54 ∷ 0x38 ∷ 0 ∷ 0x28 ∷ 0x11 ∷ 0x10 ∷ 0 ∷ 0x54 ∷ 0x1c ∷ 0 ∷ 0 ∷ 0 ∷ 0 ∷ 1 ∷ 0x72656700 ∷ 3 ∷ 0 ∷ 0x3c ∷ 2 ∷ 9 ∷ [])
 
+-- words 4 before every kind of token, and one as the value of a property
+unfoldable pub fours : List ℕ
+fours = only (4 ∷ 1 ∷ 0 ∷ 4 ∷ 4 ∷ 3 ∷ 4 ∷ 0 ∷ 4 ∷ 4 ∷ 1 ∷ 0x62000000 ∷ 4 ∷ 2 ∷ 4 ∷ 2 ∷ 4 ∷ 1 ∷ 0 ∷ 2 ∷ 4 ∷ 9 ∷ []) stringA
+
 -- the table
 unfoldable pub foreign : List ForeignCase
 foreign =
@@ -120,6 +124,8 @@ foreign =
     ∷ (only (1 ∷ 0 ∷ 2 ∷ 1 ∷ 0x62000000 ∷ 2 ∷ 9 ∷ []) [] reads justNodes (node [] [] no-more (node (98 ∷ []) [] no-more no-more)))
     ∷ (only (nested 65 (9 ∷ [])) [] reads justNodes (nest 65))
     ∷ (only (1 ∷ 0 ∷ 3 ∷ 0 ∷ 0 ∷ 1 ∷ 0 ∷ 2 ∷ 2 ∷ 9 ∷ []) stringA reads justNodes (node [] (((97 ∷ []) ≔ []) ∷ []) (node [] [] no-more no-more) no-more))
+    ∷ (fours reads justNodes (node [] (((97 ∷ []) ≔ (0 ∷ 0 ∷ 0 ∷ 4 ∷ [])) ∷ []) (node (98 ∷ []) [] no-more no-more) (node [] [] no-more no-more)))
+    ∷ (only (4 ∷ 9 ∷ []) [] reads justNodes no-more)
     -- at least 40 bytes (a shorter blob would not be read anyway: these words leave no room for an all-zero pair)
     ∷ (cellBytes 4 (0xd00dfeed ∷ 0x1c ∷ 0 ∷ 0 ∷ 0 ∷ 0x11 ∷ 0x10 ∷ []) good-words false)
     -- magic, total size, versions
@@ -139,24 +145,29 @@ foreign =
     ∷ (altered 13 1 reads none)
     ∷ (altered 4 64 reads none)
     ∷ (cellBytes 4 (0xd00dfeed ∷ 0x3c ∷ 0x28 ∷ 0x3c ∷ 0x30 ∷ 0x11 ∷ 0x10 ∷ 0 ∷ 0 ∷ 4 ∷ 9 ∷ 0 ∷ 0 ∷ 0 ∷ 0 ∷ []) reads none)
-    -- word 9 comes last, at the structure's end, with no node open; word 2 ends an open node; no word except 1, 2, 3 and 9
+    -- word 9 comes last, at the structure's end, with no node open; word 2 ends an open node; no word except 1, 2, 3, 4 and 9
     ∷ (only (1 ∷ 0 ∷ 2 ∷ []) [] stops Structure)
     ∷ (only (9 ∷ 9 ∷ []) [] stops Structure)
     ∷ (only (1 ∷ 0 ∷ 9 ∷ []) [] stops Structure)
     ∷ (only (2 ∷ 9 ∷ []) [] stops Structure)
     ∷ (only (0 ∷ 0 ∷ 2 ∷ 9 ∷ []) [] stops Structure)
     ∷ (only (1 ∷ 0 ∷ 0 ∷ 9 ∷ []) [] stops Structure)
-    ∷ (only (4 ∷ 9 ∷ []) [] stops Structure)
     ∷ (only (4 ∷ []) [] stops Structure)
+    ∷ (only (1 ∷ 0 ∷ 2 ∷ 4 ∷ []) [] stops Structure)
+    ∷ (only (0 ∷ 9 ∷ []) [] stops Structure)
+    ∷ (only (5 ∷ 9 ∷ []) [] stops Structure)
     ∷ (only (10 ∷ []) [] stops Structure)
     -- a property inside a node and before its children; an offset inside the strings, and a 0 from there on
     ∷ (only (3 ∷ 0 ∷ 0 ∷ 9 ∷ []) stringA stops Structure)
     ∷ (only (1 ∷ 0 ∷ 1 ∷ 0 ∷ 2 ∷ 3 ∷ 0 ∷ 0 ∷ 2 ∷ 9 ∷ []) stringA stops Structure)
+    ∷ (only (1 ∷ 0 ∷ 1 ∷ 0 ∷ 2 ∷ 4 ∷ 3 ∷ 0 ∷ 0 ∷ 2 ∷ 9 ∷ []) stringA stops Structure)
     ∷ (only (1 ∷ 0 ∷ 3 ∷ 0 ∷ 4 ∷ 2 ∷ 9 ∷ []) stringA stops NameOffset)
     ∷ (only (1 ∷ 0 ∷ 3 ∷ 0 ∷ 0 ∷ 2 ∷ 9 ∷ []) (0x61616161 ∷ []) stops NameOffset)
     -- a token ends inside the structure, with its name or value and the padding (in a whole blob, the next token would be refused too)
     ∷ token (2 ∷ []) 4 (step.Entry (record { token = 2; place = 0; name = 0; size = 0 }) (record { at = 4; depth = 0; «takes_property» = false }))
     ∷ token (2 ∷ []) 3 (step.Bad Structure)
+    ∷ token (4 ∷ []) 4 (step.Skip (record { at = 4; depth = 1; «takes_property» = true }))
+    ∷ token (4 ∷ []) 3 (step.Bad Structure)
     ∷ token (1 ∷ 0x61000000 ∷ []) 8 (step.Entry (record { token = 1; place = 0; name = 4; size = 0 }) (record { at = 8; depth = 2; «takes_property» = true }))
     ∷ token (1 ∷ 0x61000000 ∷ []) 7 (step.Bad Structure)
     ∷ token (1 ∷ 0x61000000 ∷ []) 5 (step.Bad Structure)

@@ -12,7 +12,7 @@ use Rattle.fdt_format.specs.declared.State.{State}
 use Rattle.fdt_format.specs.declared.Step.{Step}
 use Rattle.fdt_format.specs.declared.Step.the-variants as step
 use Rattle.fdt_format.specs.declared.Unreadable.the-variants.{Structure, NameOffset}
-use Rattle.fdt_format.specs.Tokens.{beginToken, endToken, propertyToken, propertySize, finalToken}
+use Rattle.fdt_format.specs.Tokens.{beginToken, endToken, propertyToken, propertySize, skipToken, finalToken}
 
 -- the first of the k places from `at` on that holds a 0; without one, the place after them
 unfoldable pub zeroFrom : List ℕ → ℕ → ℕ → ℕ
@@ -60,6 +60,14 @@ endAt s =
     (record { token = endToken; place = s .at; name = 0; size = 0 })
     (record { at = s .at + 4; depth = s .depth - 1; «takes_property» = false }))
 
+-- the state a word further on
+abbrev pub past : State → State
+past s = record { at = s .at + 4; depth = s .depth; «takes_property» = s .«takes_property» }
+
+-- word 4: skipped
+abbrev pub skipAt : State → Step
+skipAt s = step.Skip (past s)
+
 -- word 9: no node is open, and the structure ends here
 unfoldable pub finalAt : Areas → State → Step
 finalAt a s =
@@ -67,12 +75,13 @@ finalAt a s =
     (cond (eqb (s .at + 4) (a .«structure_end»)) step.Final (step.Bad Structure))
     (step.Bad Structure)
 
--- the token at a state: word 1, 2, 3 (before the node's children) or 9, inside the structure
+-- the token at a state: word 1, 2, 3 (before the node's children), 4 or 9, inside the structure
 unfoldable pub stepAt : List ℕ → Areas → State → Step
 stepAt b a s =
     cond (ltb (a .«structure_end» - s .at) 4) (step.Bad Structure)
     (cond (eqb (wordAt b (s .at)) beginToken) (beginAt b a s)
     (cond (eqb (wordAt b (s .at)) endToken) (endAt s)
     (cond (eqb (wordAt b (s .at)) propertyToken) (cond (s .«takes_property») (propertyAt b a s) (step.Bad Structure))
+    (cond (eqb (wordAt b (s .at)) skipToken) (skipAt s)
     (cond (eqb (wordAt b (s .at)) finalToken) (finalAt a s)
-    (step.Bad Structure)))))
+    (step.Bad Structure))))))

@@ -18,6 +18,10 @@ endToken = 2
 abbrev pub propertyToken : ℕ
 propertyToken = 3
 
+-- the word that is skipped
+abbrev pub skipToken : ℕ
+skipToken = 4
+
 -- the word after the last node
 abbrev pub finalToken : ℕ
 finalToken = 9

@@ -24,6 +24,7 @@ more t (good ts) = good (t ∷ ts)
 -- a token, and the walk after it
 abbrev pub follow : Step → (State → Walk) → Walk
 follow (step.Entry t s) on = more t (on s)
+follow (step.Skip s) on = on s
 follow step.Final on = good []
 follow (step.Bad r) on = bad r
 

@@ -11,6 +11,9 @@ pub const FDT_END_NODE: u32 = 2;
 // The word of a property.
 pub const FDT_PROP: u32 = 3;
 
+// The word that is skipped.
+pub const FDT_NOP: u32 = 4;
+
 // The word after the last node.
 pub const FDT_END: u32 = 9;
 
@@ -63,9 +66,11 @@ pub fn number(refusal: Unreadable) -> u32
     }
 }
 
-// The token at a state: an entry with the state after it, the final word, or a refusal.
+// The token at a state: an entry with the state after it, a word that is skipped with the state after it, the final word, or a
+// refusal.
 pub enum Step {
     Entry(Entry, State),
+    Skip(State),
     Final,
     Bad(Unreadable),
 }

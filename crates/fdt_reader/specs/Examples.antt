@@ -1,9 +1,9 @@
--- Examples of request 1/14 (document 02), one table: blobs made by hand, and what the reader says of each. A blob with two faults
+-- Examples of requests 1/14 and 3/14 (document 02), one table: blobs made by hand, and what the reader says of each. A blob with two faults
 -- shows which one wins.
 use mathlib.Core.List.{List, [], _∷_, _++_}
 use Prim.Native.Nat.{ℕ, zero, suc, _+_, _-_}
 use lib.ListN.{set, take, replicate}
-use Rattle.fdt_format.specs.Foreign.{altered, only, stringA, nested, ninetyTwo, tails}
+use Rattle.fdt_format.specs.Foreign.{altered, only, stringA, nested, ninetyTwo, tails, fours}
 use Rattle.fdt_reader.specs.declared.Values.{Values}
 use Rattle.fdt_reader.specs.Reader.{numberOf, surveyNumber, faultPlace, noValues, valuesOf, surveyOf, answerOf, listAfter}
 
@@ -93,4 +93,20 @@ examples =
     ∷ accepts (only (nested 64 (9 ∷ [])) []) (room 512) (record { boot = 0; reservations = 0; entries = 128 }) (nestedEntries 64 56 820)
     ∷ refuses (only (nested 65 (9 ∷ [])) []) (room 520) 25 568
     ∷ refuses (only (take 128 (nested 64 []) ++ (1 ∷ 0x61616161 ∷ [])) []) (room 520) 23 568
+    -- words 4 are skipped: every place is a token's
+    ∷ accepts fours (room 28) (record { boot = 0; reservations = 0; entries = 7 })
+    (1 ∷ 60 ∷ 64 ∷ 0
+    ∷ 3 ∷ 76 ∷ 144 ∷ 4
+    ∷ 1 ∷ 96 ∷ 100 ∷ 0
+    ∷ 2 ∷ 108 ∷ 0 ∷ 0
+    ∷ 2 ∷ 116 ∷ 0 ∷ 0
+    ∷ 1 ∷ 124 ∷ 128 ∷ 0
+    ∷ 2 ∷ 132 ∷ 0 ∷ 0
+    ∷ [])
+    -- words 4 alone; one as the last word; and then a property after an end, a bad name offset, a 65th begin
+    ∷ refuses (only (4 ∷ 4 ∷ []) []) (room 4) 23 64
+    ∷ refuses (only (1 ∷ 0 ∷ 2 ∷ 4 ∷ []) []) (room 8) 23 72
+    ∷ refuses (only (1 ∷ 0 ∷ 1 ∷ 0 ∷ 2 ∷ 4 ∷ 3 ∷ 0 ∷ 0 ∷ 2 ∷ 9 ∷ []) stringA) (room 20) 23 80
+    ∷ refuses (only (1 ∷ 0 ∷ 4 ∷ 3 ∷ 0 ∷ 4 ∷ 2 ∷ 9 ∷ []) stringA) (room 12) 24 68
+    ∷ refuses (only (take 128 (nested 64 []) ++ (4 ∷ 1 ∷ 0 ∷ [])) []) (room 520) 25 572
     ∷ []

@@ -102,6 +102,9 @@ module _ (b : List ℕ) (a : Areas) where
       by-test (Beside b (mostOpen - s .depth) (goodMore t (on s'))) (ltb mostOpen (s' .depth)) _ _
       (λ d. beside-deep t (s .at) (m .1) h (ltb-true _ _ d) (on s'))
       λ d. beside-more t (m .1) h (ltb-false _ _ d) (ih s' (ltb-false _ _ d))
+  by-step on on' s h ih (step.Skip s') m =
+      let d : s' .depth ≡ s .depth = ap (λ (x : State). x .depth) (m .1) in
+      subst (λ (n : ℕ). Beside b (mostOpen - n) (on s') (on' s')) d (ih s' (omega (arith, d)))
   by-step on on' s h ih step.Final m = both [] tt
   by-step on on' s h ih (step.Bad r) m = neither r _
 

@@ -21,7 +21,7 @@ use Rattle.fdt_walk.specs.declared.Fault.{Fault}
 use Rattle.fdt_walk.specs.declared.Refusal.{Refusal}
 use Rattle.fdt_walk.specs.declared.Refusal.the-variants.{Unreadable}
 use Rattle.fdt_walk.specs.Depth.{mostOpen}
-use Rattle.fdt_walk.specs.Reached.{Reached, first, next, Wrong, structure, name-offset, depth, Meets}
+use Rattle.fdt_walk.specs.Reached.{Reached, first, next, skipped, Wrong, structure, name-offset, depth, Meets}
 use Rattle.fdt_walk.specs.ReaderWalk.{ReaderWalk, stops, reads, more, refusedAt, capped, readerSteps, readerWalk}
 use Rattle.fdt_walk.proofs.Walked.{reader-step}
 
@@ -48,6 +48,7 @@ module _ (b : List ℕ) (a : Areas) where
         by-test (λ (w : ReaderWalk). w ≡ stops f → Meets b a f) (ltb mostOpen (s' .depth)) _ _
         (λ d. here s h (depth e (ltb-true _ _ d)))
         λ d q. ih s' (next h e (ltb-false _ _ d)) (k .0) (more-stops t (on s') f q)
+    by-step on s h ih (step.Skip s') e k = ih s' (skipped h e) (k .0)
     by-step on s h ih step.Final e k = λ q. absurd (let z : _≡_ {A = ℕ} 0 1 = cc in omega arith)
     by-step on s h ih (step.Bad reason) e k = by-reason s h reason e k
 
@@ -69,6 +70,7 @@ module _ (b : List ℕ) (a : Areas) where
   unfolding capped
   reached-stops first f q = q
   reached-stops (next {s} {t} h e d) f q = reached-stops h f (reader-step b a s ∙ rw (e, le-ltb _ _ d, q))
+  reached-stops (skipped {s} h e) f q = reached-stops h f (reader-step b a s ∙ rw (e, q))
 
   pub stops-exactly : (f : Fault) → (readerWalk b a (walkStart a) ≡ stops f) ↔ Meets b a f
   unfolding readerWalk

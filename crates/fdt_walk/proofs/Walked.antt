@@ -1,11 +1,9 @@
--- A reader's walk is its first token and the walk after it; the strings may be cut after their last 0.
+-- A reader's walk is its first step and the walk after it, so a word 4 makes no difference; the strings may be cut after their last 0.
 use mathlib.Core.Path.{_≡_, refl, sym, ap, subst, _∙_}
-use mathlib.Core.Bool.{cond}
 use mathlib.Core.List.{List}
-use Prim.Native.Nat.{ℕ, zero, suc, _-_, _≤_, _<_}
+use Prim.Native.Nat.{ℕ, zero, suc, _+_, _-_, _≤_, _<_}
 use native.Mathlib.Omega.{arith}
-use borrow.Author.Tests.{ltb-false, lt-ltb, le-ltb, ne-eqb}
-use lib.Dec.{ltb}
+use borrow.Author.Tests.{lt-ltb, le-ltb, ne-eqb}
 use Rattle.fdt_format.specs.declared.Areas.{Areas}
 use Rattle.fdt_format.specs.declared.Entry.{Entry}
 use Rattle.fdt_format.specs.declared.State.{State}
@@ -14,9 +12,10 @@ use Rattle.fdt_format.specs.declared.Step.the-variants as step
 use Rattle.fdt_format.specs.declared.Unreadable.{Unreadable as Reason}
 use Rattle.fdt_format.specs.Moves.{Moved, Kind, opens, adds, closes}
 use Rattle.fdt_format.specs.Reading.{eventAt}
-use Rattle.fdt_format.specs.Step.{stepAt}
-use Rattle.fdt_format.specs.Tokens.{beginToken, endToken}
-use Rattle.fdt_format.proofs.Steps.{by-test, event-begins, event-ends, Stepped, step-stepped}
+use Rattle.fdt_bytes.specs.BigEndian.{wordAt}
+use Rattle.fdt_format.specs.Step.{past, stepAt}
+use Rattle.fdt_format.specs.Tokens.{beginToken, endToken, skipToken}
+use Rattle.fdt_format.proofs.Steps.{event-begins, event-ends, Stepped, step-stepped, step-skip}
 use Rattle.fdt_format.proofs.Walks.{first-step}
 use Rattle.fdt_read_token.specs.Trimmed.{trimmed}
 use Rattle.fdt_read_token.proofs.Trimmed.{step-trimmed}
@@ -25,7 +24,7 @@ use Rattle.fdt_walk.specs.declared.Token.{Token}
 use Rattle.fdt_walk.specs.declared.Token.the-variants as token
 use Rattle.fdt_walk.specs.Depth.{mostOpen}
 use Rattle.fdt_walk.specs.ReaderWalk.{ReaderWalk, capped, readerSteps, readerWalk}
-use Rattle.fdt_walk.specs.Token.{follow, Goes, Takes}
+use Rattle.fdt_walk.specs.Token.{Goes, Takes}
 
 -- ---- the first token
 
@@ -34,6 +33,7 @@ capped-same : (b : List ℕ) (a : Areas) (s : State) (x : Step) → Stepped b a 
     → capped (s .at) x g ≡ capped (s .at) x h
 unfolding Stepped capped
 capped-same b a s (step.Entry t s') m g h same = rw (same s' (m .0))
+capped-same b a s (step.Skip s') m g h same = same s' (m .0)
 capped-same b a s step.Final m g h same = refl
 capped-same b a s (step.Bad reason) m g h same = refl
 
@@ -43,54 +43,75 @@ unfolding readerWalk readerSteps
 reader-step b a s =
     first-step a (λ (s : State). capped (s .at) (stepAt b a s)) (λ s. capped-same b a s (stepAt b a s) (step-stepped b a s)) (readerSteps b a) (λ _ _. refl) s
 
+-- a word 4 at any state describes nothing to a reader either
+pub reader-skip : (b : List ℕ) (a : Areas) (s : State) → s .at + 4 ≤ a .«structure_end» → wordAt b (s .at) ≡ skipToken → readerWalk b a s ≡ readerWalk b a (past s)
+unfolding capped
+reader-skip b a s h w = reader-step b a s ∙ rw (step-skip b a s h w)
+
 -- ---- the token that a reader takes
 
--- it is the reading's, if at most 64 nodes are open after it
-unfoldable taken : ℕ → Step → Token
-taken place (step.Entry t s) = cond (ltb mostOpen (s .depth)) (token.Refused (record { refusal = Depth; place = place })) (token.Entry t s)
-taken place step.Final = token.Final
-taken place (step.Bad reason) = token.Refused (record { refusal = Unreadable reason; place = place })
+kind-past : {b : List ℕ} {s : State} {t : Entry} {s' : State} → Kind b (past s) t s' → Kind b s t s'
+kind-past (opens name e d r) = opens name e d r
+kind-past (adds p e d r r') = adds p e d r r'
+kind-past (closes e d r) = closes e d r
 
-follow-taken : (place : ℕ) (x : Step) (on : State → ReaderWalk) → capped place x on ≡ follow (taken place x) on
-unfolding capped taken
-follow-taken place (step.Entry t s) on =
-    by-test (λ (x : Token). capped place (step.Entry t s) on ≡ follow x on) (ltb mostOpen (s .depth)) _ _ (λ deep. rw deep) (λ few. rw few)
-follow-taken place step.Final on = refl
-follow-taken place (step.Bad reason) on = refl
+-- a token after a word that is skipped
+goes-past : (b : List ℕ) (a : Areas) (s : State) (r : Token) → Goes b a (past s) r → Goes b a s r
+unfolding Goes
+goes-past b a s (token.Entry t s') n = record {
+  moved = record { on = omega (arith, n .moved .on); within = n .moved .within };
+  shallow = n .shallow;
+  kind = kind-past (n .kind);
+}
+goes-past b a s token.Final n = n
+goes-past b a s (token.Refused fault) n = tt
 
-goes-taken : (b : List ℕ) (a : Areas) (s : State) (x : Step) → Stepped b a s x → Goes b a s (taken (s .at) x)
-unfolding Stepped Goes taken
-goes-taken b a s (step.Entry t s') h =
-    by-test (Goes b a s) (ltb mostOpen (s' .depth)) _ _ (λ _. tt) (λ few. record { moved = h .0; shallow = ltb-false _ _ few; kind = h .1 })
-goes-taken b a s step.Final h = h
-goes-taken b a s (step.Bad reason) h = tt
+-- a word is skipped at a state: the place moves on, and the token that is taken there is the one that is taken after it
+pub record Skips (b : List ℕ) (a : Areas) (s s' : State) : Type 0 where
+  pub moved : Moved a s s'
+  pub depth : s' .depth ≡ s .depth
+  pub takes : (r : Token) → Takes b a s' r → Takes b a s r
 
--- each token that is read, as a reader takes it
+known : (b : List ℕ) (a : Areas) (s : State) {x y : Step} → x ≡ stepAt b a s → x ≡ y → (stepAt b a s ≡ y) × Stepped b a s y
+known b a s q e = let r = sym q ∙ e in (r, subst (Stepped b a s) r (step-stepped b a s))
+
+-- each step that is read, as a reader takes it
 module _ {b : List ℕ} {a : Areas} {s : State} {x : Step} (q : x ≡ stepAt b a s) where
-  takes : {r : Token} → taken (s .at) x ≡ r → Takes b a s r
-  takes e =
-      subst (Takes b a s) (ap (taken (s .at)) (sym q) ∙ e)
-      (record {
-        tells = reader-step b a s ∙ follow-taken (s .at) (stepAt b a s) (readerWalk b a);
-        goes = goes-taken b a s (stepAt b a s) (step-stepped b a s);
-      })
-
   pub takes-final : x ≡ step.Final → Takes b a s token.Final
-  unfolding taken
-  takes-final e = takes (rw e)
+  unfolding capped Stepped Goes
+  takes-final e = let k = known b a s q e in record { tells = reader-step b a s ∙ rw (k .0); goes = k .1 }
 
   pub takes-bad : {reason : Reason} → x ≡ step.Bad reason → Takes b a s (token.Refused (record { refusal = Unreadable reason; place = s .at }))
-  unfolding taken
-  takes-bad e = takes (rw e)
+  unfolding capped Goes
+  takes-bad e = let k = known b a s q e in record { tells = reader-step b a s ∙ rw (k .0); goes = tt }
 
   module _ {t : Entry} {s' : State} (e : x ≡ step.Entry t s') where
     pub takes-deep : mostOpen < s' .depth → Takes b a s (token.Refused (record { refusal = Depth; place = s .at }))
-    unfolding taken
-    takes-deep deep = takes (rw (e, lt-ltb _ _ deep))
+    unfolding capped Goes
+    takes-deep deep = let k = known b a s q e in record { tells = reader-step b a s ∙ rw (k .0, lt-ltb _ _ deep); goes = tt }
 
     pub takes-entry : s' .depth ≤ mostOpen → Takes b a s (token.Entry t s')
-    unfolding taken
-    takes-entry few = takes (rw (e, le-ltb _ _ few))
+    unfolding capped Stepped Goes
+    takes-entry few =
+        let k = known b a s q e in
+        record {
+          tells = reader-step b a s ∙ rw (k .0, le-ltb _ _ few);
+          goes = record { moved = k .1 .0; shallow = few; kind = k .1 .1 };
+        }
+
+  pub skips : {s' : State} → x ≡ step.Skip s' → Skips b a s s'
+  unfolding capped Stepped
+  skips {s'} e =
+      let k = known b a s q e in
+      record {
+        moved = k .1 .0;
+        depth = ap (λ (y : State). y .depth) (k .1 .1);
+        takes =
+            λ r h. record {
+              tells = reader-step b a s ∙ rw (k .0) (h .tells);
+              goes = goes-past b a s r (subst (λ (y : State). Goes b a y r) (k .1 .1) (h .goes));
+            };
+      }
 
 -- ---- the kind of an entry, by its token
 

@@ -32,6 +32,7 @@ refusedAt place r = stops (record { refusal = r; place = place })
 -- the token at a place, and the walk after it. The reading's own refusals come first: structure, then name offset. Depth is the last.
 unfoldable pub capped : ℕ → Step → (State → ReaderWalk) → ReaderWalk
 capped place (step.Entry t s) on = cond (ltb mostOpen (s .depth)) (refusedAt place Depth) (more t (on s))
+capped place (step.Skip s) on = on s
 capped place step.Final on = reads []
 capped place (step.Bad reason) on = refusedAt place (Unreadable reason)
 

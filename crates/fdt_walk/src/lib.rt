@@ -48,28 +48,34 @@ pub fn number(refusal: Refusal) -> u32
     }
 }
 
-// Takes the token at a state. It promises how the walk goes on, that the place moves on and what kind of entry it is, not which
-// token it is.
-pub fn token_at(blob: &[u8], a: Areas, s: State) -> Token
-    requires { ⌜ Trimmed (now blob) a × Stands a s ⌝ }
-    ensures { λ r. ⌜ Takes (now (blob .entry)) a s r ⌝ }
+// Takes the next token from a state on. Words 4 before it are skipped, and the place of a fault is the token's. It promises how
+// the walk goes on, that the place moves on and what kind of entry it is, not which token it is.
+pub fn token_at(blob: &[u8], a: Areas, from: State) -> Token
+    requires { ⌜ Trimmed (now blob) a × Stands a from ⌝ }
+    ensures { λ r. ⌜ Takes (now (blob .entry)) a from r ⌝ }
 {
-    let place = s.at;
-    let read = step_at(blob, a, s);
-    match read {
-        Step::Final => Token::Final,
-        Step::Bad(reason) => Token::Refused(Fault {
-            refusal: Refusal::Unreadable(reason),
-            place,
-        }),
-        Step::Entry(t, next) => {
-            if MOST_OPEN < next.depth {
+    let mut s = from;
+    loop {
+        let place = s.at;
+        let read = step_at(blob, a, s);
+        match read {
+            Step::Skip(next) => s = next,
+            Step::Final => return Token::Final,
+            Step::Bad(reason) => {
                 return Token::Refused(Fault {
-                    refusal: Refusal::Depth,
+                    refusal: Refusal::Unreadable(reason),
                     place,
                 });
             }
-            Token::Entry(t, next)
+            Step::Entry(t, next) => {
+                if MOST_OPEN < next.depth {
+                    return Token::Refused(Fault {
+                        refusal: Refusal::Depth,
+                        place,
+                    });
+                }
+                return Token::Entry(t, next);
+            }
         }
     }
 }

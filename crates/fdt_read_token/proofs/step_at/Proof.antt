@@ -37,21 +37,29 @@ returns-5 c =
 returns-6 : tie.Need-returns-6
 unfolding stepAt
 returns-6 c =
-    let final = c .before in
-    let word = final .before .before .before .before in
-    rw (le-ltb _ _ (word .before .if1 .left), ← word .read-u32 .ensures, final .if6 .taken) (c .final-at .ensures)
+    let skip = c .before in
+    let word = skip .before .before .before .before in
+    rw (le-ltb _ _ (word .before .if1 .left), ← word .read-u32 .ensures, skip .if6 .taken) (c .skip-at .ensures)
 
 returns-7 : tie.Need-returns-7
 unfolding stepAt
 returns-7 c =
-    let word = c .before .before .before .before in
+    let final = c .before in
+    let word = final .before .before .before .before .before in
+    rw (le-ltb _ _ (word .before .if1 .left), ← word .read-u32 .ensures, final .if7 .taken) (c .final-at .ensures)
+
+returns-8 : tie.Need-returns-8
+unfolding stepAt
+returns-8 c =
+    let word = c .before .before .before .before .before in
     rw (
       le-ltb _ _ (word .before .if1 .left),
       ← word .read-u32 .ensures,
-      ne-eqb _ _ (c .before .before .before .if2 .left),
-      ne-eqb _ _ (c .before .before .if3 .left),
-      ne-eqb _ _ (c .before .if4 .left),
-      ne-eqb _ _ (c .if6 .left),
+      ne-eqb _ _ (c .before .before .before .before .if2 .left),
+      ne-eqb _ _ (c .before .before .before .if3 .left),
+      ne-eqb _ _ (c .before .before .if4 .left),
+      ne-eqb _ _ (c .before .if6 .left),
+      ne-eqb _ _ (c .if7 .left),
     )
 
 pub step-at-spec : {M : Type 1} → statement M
@@ -69,4 +77,6 @@ step-at-spec =
     returns-5
     (λ c κs. search needs)
     returns-6
-    returns-7)
+    (λ c κs. search needs)
+    returns-7
+    returns-8)
