@@ -1,3 +1,5 @@
+pub mod Around
+pub mod Blanked
 pub mod Example
 pub mod Foreign
 pub mod HeaderRead

@@ -18,7 +18,7 @@ use Rattle.fdt_format.specs.Events.{Event, begins, has, ends, events, no
 use Rattle.fdt_format.specs.Moves.{Kind, opens, adds, closes}
 use Rattle.fdt_format.specs.Reading.{areasOf, goodHeader, eventAt, walkNodes, described, readReservations, readNodes, reading}
 use Rattle.fdt_format.specs.Step.{stepAt}
-use Rattle.fdt_format.specs.Walk.{Walk, bad, good, more, follow, steps, walk, walkStart}
+use Rattle.fdt_format.specs.Walk.{Walk, bad, good, more, follow, steps, walk, walkStart, TokensAt}
 use Rattle.fdt_format.proofs.Nodes.{Accepted, described-by, nodes-exactly}
 use Rattle.fdt_format.proofs.Steps.{Stepped, step-stepped}
 
@@ -87,7 +87,28 @@ module _ (b : List ℕ) where
   here a on s o ih step.Final k ts q = let n : [] ≡ ts = cc in rw (← n) k
   here a on s o ih (step.Bad r) k ts q = absurd (bad-not-good q)
 
+  -- by the step at a state, if the entries after it have their tokens at their places
+  tokens-here : (a : Areas) (on : State → Walk) (s : State) → ((s' : State) (ts : List Entry) → on s' ≡ good ts → TokensAt b ts)
+      → (x : Step) → Stepped b a s x → (ts : List Entry) → follow x on ≡ good ts → TokensAt b ts
+  unfolding Stepped TokensAt
+  tokens-here a on s ih (step.Entry t s') k ts q =
+      let p : Split t (on s') ts = split t (on s') ts q in
+      subst (TokensAt b) (p .all) (k .2, ih s' (p .rest) (p .is))
+  tokens-here a on s ih (step.Skip s') k ts q = ih s' ts q
+  tokens-here a on s ih step.Final k ts q = let n : [] ≡ ts = cc in rw (← n) tt
+  tokens-here a on s ih (step.Bad r) k ts q = absurd (bad-not-good q)
+
   module _ (a : Areas) where
+    tokens-steps : (k : ℕ) (s : State) (ts : List Entry) → steps (stepAt b a) k s ≡ good ts → TokensAt b ts
+    unfolding steps
+    tokens-steps zero s ts q = absurd (bad-not-good q)
+    tokens-steps (suc k) s ts q = tokens-here a (steps (stepAt b a) k) s (tokens-steps k) (stepAt b a s) (step-stepped b a s) ts q
+
+    -- an entry's place is its token's, not that of a word skipped before it
+    pub tokens-at : (s : State) (ts : List Entry) → walk b a s ≡ good ts → TokensAt b ts
+    unfolding walk
+    tokens-at s = tokens-steps _ s
+
     ordered : (k : ℕ) (s : State) → Open s → (ts : List Entry) → steps (stepAt b a) k s ≡ good ts → Ordered s (map (eventAt b) ts)
     unfolding steps
     ordered zero s o ts q = absurd (bad-not-good q)

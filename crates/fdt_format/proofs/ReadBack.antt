@@ -1,127 +1,115 @@
--- The blob of a description is read as that description: header, reservations and structure, each where the header says.
+-- The blob of a description is read as that description: each piece of its structure is read, where the header says.
 use mathlib.Core.Path.{_≡_, refl, sym, ap, subst, _∙_}
 use mathlib.Core.Logic.{_↔_}
-use mathlib.Core.Bool.{false}
-use mathlib.Core.List.{List, [], _++_, append-nil}
-use mathlib.Core.Option.{Option, some, Option·some-injective}
-use Prim.Native.Nat.{ℕ, _+_, _-_, _/_, _<_, _^_}
+use mathlib.Core.List.{List, [], _∷_, _++_, map}
+use mathlib.Core.Option.{some, Option·some-injective}
+use Prim.Native.Nat.{ℕ, _+_, _<_, _^_}
 use native.Mathlib.Omega.{arith}
-use lib.ListN.{length, length-append}
+use lib.ListN.{length}
 use Rattle.fdt_strings.specs.Entries.{joined}
+use Rattle.fdt_strings.proofs.Entries.{no-entry, PlainNames}
 use Rattle.fdt_format.specs.declared.Areas.{Areas}
-use Rattle.fdt_format.specs.Description.{Reservation, Description}
+use Rattle.fdt_format.specs.Description.{Nodes, Reservation, Description}
 use Rattle.fdt_format.specs.Events.{Event, events, nodesOf}
-use Rattle.fdt_header.specs.Header.{headerSize, structureStart, reservationBytes, headerBytes}
-use Rattle.fdt_format.specs.Tokens.{finalBytes}
-use Rattle.fdt_format.specs.Reading.{areasOf, described, readReservations, readNodes, reading}
+use Rattle.fdt_header.specs.Header.{structureStart}
+use Rattle.fdt_format.specs.Reading.{areasOf, described, reading}
 use Rattle.fdt_format.specs.Walk.{walkStart}
-use Rattle.fdt_format.specs.Blob.{namesOf, structureBytes, eventsSize, numbersOf, blobFrom, blobOf, AllPlain, AllReservable, WellFormed}
-use Rattle.fdt_header.proofs.HeaderBytes.{length-header}
-use Rattle.fdt_format.proofs.HeaderRead.{areasFrom, areas-read, header-good}
-use Rattle.fdt_format.proofs.Nodes.{Accepted, nodes-events, accepted-events}
-use Rattle.fdt_format.proofs.ReservationsRead.{length-reservations, reservations-read}
+use Rattle.fdt_format.specs.Blob.{namesOf, eventBytes, structureBytes, eventsSize, blobAround, blobFrom, blobOf, AllPlain, AllReservable, WellFormed}
+use Rattle.fdt_format.specs.Blanks.{Piece, token, eventsOf, pieceBytes, piecesBytes}
+use Rattle.fdt_format.proofs.Around.{structure-held, length-around, areasAround, areas-around, read-around}
+use Rattle.fdt_format.proofs.HeaderRead.{areasFrom}
+use Rattle.fdt_format.proofs.Nodes.{nodes-events, accepted-events}
+use Rattle.fdt_format.proofs.Strings.{AllHas, names-plain, names-have}
 use Rattle.fdt_format.proofs.Structure.{structure-size}
-use Rattle.fdt_format.proofs.Tokens.{length-final}
-use Rattle.fdt_format.proofs.Words.{BytesAt, bytes-left, bytes-right}
-use Rattle.fdt_format.proofs.Written.{Walked, Laid, laid-walked, nodes-read}
+use Rattle.fdt_format.proofs.Written.{Chain, Laid, laid-read, nodes-read}
 
-module _ (rs : List Reservation) (boot : ℕ) (es : List Event) where
-  -- where the structure ends and the strings begin
-  abbrev stringsStart : ℕ
-  stringsStart = structureStart (length rs) + length (structureBytes (namesOf es) es) + 4
+-- ---- a blob with pieces that describe nodes, and the strings of names
 
-  -- the header of the blob
-  abbrev header : List ℕ
-  header = headerBytes (length rs) stringsStart (length (joined (namesOf es))) boot
+module _
+    (rs : List Reservation) (boot : ℕ) (names : List (List ℕ)) (ps : List Piece) (f : Nodes) (describe : eventsOf ps ≡ events f [])
+    (structure : List ℕ) (bytes : piecesBytes names ps ≡ structure) (small : length (blobAround rs boot structure (joined names)) < 2 ^ 32)
+    (boots : boot < 2 ^ 32) (plain : PlainNames names) (p : AllPlain (eventsOf ps)) (h : AllHas names (eventsOf ps))
+  where
+    -- the blob
+    abbrev blob : List ℕ
+    blob = blobAround rs boot structure (joined names)
 
-  -- what follows the reservations
-  abbrev behind : List ℕ
-  behind = structureBytes (namesOf es) es ++ finalBytes (joined (namesOf es))
+    -- its areas
+    abbrev areas : Areas
+    areas = areasAround rs boot structure (joined names)
 
-  -- each part is where the header says
-  whole-held : BytesAt (blobFrom rs boot es) 0 (header ++ (reservationBytes (numbersOf rs) ++ behind))
-  unfolding blobFrom
-  whole-held = record { before = []; behind = []; split = sym (append-nil _); place = refl }
+    chain : Chain blob areas names (walkStart areas) ps
+    unfolding areasAround areasFrom
+    chain =
+        let laid : Laid blob areas names ps = record {
+          small = small;
+          multiple = omega arith;
+          structure-ends = rw bytes;
+          strings-begin = refl;
+          strings-end = refl;
+          held = rw bytes (structure-held rs boot structure (joined names));
+        }
+        in laid-read blob areas names ps laid plain (rw describe (accepted-events f)) p h
 
-  rest-held : BytesAt (blobFrom rs boot es) headerSize (reservationBytes (numbersOf rs) ++ behind)
-  rest-held = bytes-right header (reservationBytes (numbersOf rs) ++ behind) whole-held headerSize (omega (arith, length-header (length rs) stringsStart (length (joined (namesOf es))) boot))
+    -- each piece is read, in the areas that the header names
+    pieces-read : Chain blob (areasOf blob) names (walkStart (areasOf blob)) ps
+    pieces-read = subst (λ (a : Areas). Chain blob a names (walkStart a) ps) (sym (areas-around rs boot structure (joined names) boots small)) chain
 
-  structure-held : BytesAt (blobFrom rs boot es) (structureStart (length rs)) behind
-  structure-held = bytes-right (reservationBytes (numbersOf rs)) behind rest-held (structureStart (length rs)) (omega (arith, length-reservations rs))
+    -- and the blob is read as the nodes
+    pub pieces-described : AllReservable rs → reading blob ≡ some (record { reservations = rs; boot = boot; nodes = f })
+    unfolding described
+    pieces-described t =
+        read-around rs boot structure (joined names) boots small t
+        ∙ ap (described boot (some rs)) (nodes-read blob areas names ps chain ∙ ap nodesOf describe ∙ nodes-events f)
 
-  -- how long it is
-  pub length-from : length (blobFrom rs boot es) ≡ structureStart (length rs) + length (structureBytes (namesOf es) es) + 4 + length (joined (namesOf es))
-  unfolding blobFrom
-  length-from =
-      simp length-append
-      (omega (arith, length-header (length rs) stringsStart (length (joined (namesOf es))) boot, length-reservations rs, length-final (joined (namesOf es))))
+-- ---- events alone
 
-  module _ (boots : boot < 2 ^ 32) (small : length (blobFrom rs boot es) < 2 ^ 32) where
-    -- the areas that its header names
-    areas : Areas
-    areas = areasFrom (length rs) stringsStart (length (joined (namesOf es))) boot
+pub tokens-events : (es : List Event) → eventsOf (map token es) ≡ es
+unfolding eventsOf
+tokens-events [] = refl
+tokens-events (e ∷ es) = ap (λ (l : List Event). e ∷ l) (tokens-events es)
 
-    header-held : BytesAt (blobFrom rs boot es) 0 header
-    header-held = bytes-left header (reservationBytes (numbersOf rs) ++ behind) whole-held
+pub tokens-bytes : (names : List (List ℕ)) (es : List Event) → piecesBytes names (map token es) ≡ structureBytes names es
+unfolding piecesBytes pieceBytes structureBytes
+tokens-bytes names [] = refl
+tokens-bytes names (e ∷ es) = ap (λ (l : List ℕ). eventBytes names e ++ l) (tokens-bytes names es)
 
-    laid : Laid (blobFrom rs boot es) areas es
-    unfolding areasFrom areas
-    laid = record {
-      small = small;
-      multiple = omega arith;
-      structure-ends = omega (arith, structure-size (namesOf es) es);
-      strings-begin = refl;
-      strings-end = refl;
-      held = structure-held;
-    }
+-- how long the blob of events is
+pub length-from : (rs : List Reservation) (boot : ℕ) (es : List Event) → length (blobFrom rs boot es) ≡ structureStart (length rs) + length (structureBytes (namesOf es) es) + 4 + length (joined (namesOf es))
+unfolding blobFrom
+length-from rs boot es = length-around rs boot (structureBytes (namesOf es) es) (joined (namesOf es))
 
-    reserved-read : AllReservable rs → readReservations (blobFrom rs boot es) areas ≡ some rs
-    unfolding readReservations areasFrom areas
-    reserved-read t =
-        reservations-read (blobFrom rs boot es) rs ((length (blobFrom rs boot es) - headerSize) / 16) headerSize t (omega (arith, length-from))
-        (bytes-left (reservationBytes (numbersOf rs)) behind rest-held)
+module _ (d : Description) (w : WellFormed d) where
+  -- the events of the description
+  abbrev es : List Event
+  es = events (d .nodes) []
 
-    -- its header names them
-    areas-named : areasOf (blobFrom rs boot es) ≡ areas
-    unfolding areas
-    areas-named = areas-read (blobFrom rs boot es) (length rs) stringsStart (length (joined (namesOf es))) boot header-held (omega arith) length-from small boots
+  -- where the structure and the strings of its blob begin
+  pub structure-from : areasOf (blobOf d) .structure ≡ structureStart (length (d .reservations))
+  unfolding blobOf blobFrom areasAround areasFrom
+  structure-from = ap (λ (a : Areas). a .structure) (areas-around (d .reservations) (d .boot) (structureBytes (namesOf es) es) (joined (namesOf es)) (w .boot) (w .size))
 
-    -- where its structure and its strings begin
-    pub structure-from : areasOf (blobFrom rs boot es) .structure ≡ structureStart (length rs)
-    unfolding areasFrom areas
-    structure-from = ap (λ (a : Areas). a .structure) areas-named
+  pub strings-from : areasOf (blobOf d) .strings ≡ structureStart (length (d .reservations)) + eventsSize es + 4
+  unfolding blobOf blobFrom areasAround areasFrom
+  strings-from =
+      ap (λ (a : Areas). a .strings) (areas-around (d .reservations) (d .boot) (structureBytes (namesOf es) es) (joined (namesOf es)) (w .boot) (w .size))
+      ∙ ap (λ (n : ℕ). structureStart (length (d .reservations)) + n + 4) (structure-size (namesOf es) es)
 
-    pub strings-from : areasOf (blobFrom rs boot es) .strings ≡ structureStart (length rs) + eventsSize es + 4
-    unfolding areasFrom areas
-    strings-from = ap (λ (a : Areas). a .strings) areas-named ∙ ap (λ (n : ℕ). structureStart (length rs) + n + 4) (structure-size (namesOf es) es)
-
-    -- its walk finds the entries of the events
-    pub walk-from : AllPlain es → Accepted 0 false es → let a : Areas = areasOf (blobFrom rs boot es) in Walked (blobFrom rs boot es) a (namesOf es) (walkStart a) es
-    walk-from p c = subst (λ (a : Areas). Walked (blobFrom rs boot es) a (namesOf es) (walkStart a) es) (sym areas-named) (laid-walked (blobFrom rs boot es) areas es laid c p)
-
-    -- the blob of reservations, a boot number and events in order is read as these, with the nodes of the events
-    pub read-from : AllReservable rs → AllPlain es → Accepted 0 false es → reading (blobFrom rs boot es) ≡ described boot (some rs) (nodesOf es)
-    unfolding reading areasFrom areas
-    read-from t p c =
-        let b = blobFrom rs boot es in
-        let good = header-good b (length rs) stringsStart (length (joined (namesOf es))) boot header-held (omega arith) length-from small boots in
-        rw good
-        (ap (λ (a : Areas). described (a .boot) (readReservations b a) (readNodes b a)) areas-named
-        ∙ ap (λ (r : Option (List Reservation)). described boot r (readNodes b areas)) (reserved-read t)
-        ∙ ap (described boot (some rs)) (nodes-read b areas es laid c p))
-
--- how long the blob of a description is
-pub length-blob : (d : Description) → let es : List Event = events (d .nodes) [] in length (blobOf d) ≡ structureStart (length (d .reservations)) + length (structureBytes (namesOf es) es) + 4 + length (joined (namesOf es))
-unfolding blobOf
-length-blob d = length-from (d .reservations) (d .boot) (events (d .nodes) [])
+  -- each event is read
+  pub events-read : let a : Areas = areasOf (blobOf d) in Chain (blobOf d) a (namesOf es) (walkStart a) (map token es)
+  unfolding blobOf blobFrom namesOf
+  events-read =
+      let is = tokens-events es in
+      pieces-read (d .reservations) (d .boot) (namesOf es) (map token es) (d .nodes) is _ (tokens-bytes (namesOf es) es) (w .size) (w .boot)
+      (names-plain es (w .names) no-entry) (rw is (w .names)) (rw is (names-have [] es))
 
 -- the blob of a description is read as the description
 pub read-blob : (d : Description) → WellFormed d → reading (blobOf d) ≡ some d
-unfolding blobOf described
+unfolding blobOf blobFrom namesOf
 read-blob d w =
-    let es = events (d .nodes) [] in
-    read-from (d .reservations) (d .boot) es (w .boot) (w .size) (w .reservable) (w .names) (accepted-events (d .nodes))
-    ∙ ap (described (d .boot) (some (d .reservations))) (nodes-events (d .nodes))
+    let is = tokens-events (es d w) in
+    pieces-described (d .reservations) (d .boot) (namesOf (es d w)) (map token (es d w)) (d .nodes) is _ (tokens-bytes (namesOf (es d w)) (es d w)) (w .size) (w .boot)
+    (names-plain (es d w) (w .names) no-entry) (rw is (w .names)) (rw is (names-have [] (es d w))) (w .reservable)
 
 -- two descriptions have the same blob exactly when they are the same
 pub same-blob : (d e : Description) → WellFormed d → WellFormed e → (blobOf d ≡ blobOf e) ↔ (d ≡ e)

@@ -1,4 +1,4 @@
--- The token at a state moves the place on inside the structure, and begins a node, is a property or ends a node.
+-- The token at a state moves the place on inside the structure, and begins a node, is a property, ends a node or is skipped.
 use mathlib.Core.Path.{_≡_, refl, subst}
 use mathlib.Core.Bool.{Bool, true, false, _&&_, cond, false≢true}
 use mathlib.Core.List.{List}
@@ -112,9 +112,9 @@ module _ (b : List ℕ) (t : Entry) where
 
 -- ---- how a token moves the state
 
--- an entry moves the place on, and begins a node, is a property or ends a node; a word that is skipped only moves the place on; the final word comes where no node is open; a token is refused only for its structure or its name offset
+-- an entry moves the place on, begins a node, is a property or ends a node, and has its token at its place; a word that is skipped only moves the place on; the final word comes where no node is open; a token is refused only for its structure or its name offset
 unfoldable pub Stepped : List ℕ → Areas → State → Step → Type 0
-Stepped b a s (step.Entry t s') = Moved a s s' × Kind b s t s'
+Stepped b a s (step.Entry t s') = Moved a s s' × Kind b s t s' × (wordAt b (t .place) ≡ t .token)
 Stepped b a s (step.Skip s') = Moved a s s' × (s' ≡ past s)
 Stepped b a s step.Final = s .depth ≡ 0
 Stepped b a s (step.Bad r) = (r ≡ Structure) ⊎ (r ≡ NameOffset)
@@ -124,9 +124,9 @@ unfolding roundUp
 roundUp-ge m n = omega arith
 
 module _ (b : List ℕ) (a : Areas) (s : State) where
-  begin-stepped : Stepped b a s (beginAt b a s)
+  begin-stepped : wordAt b (s .at) ≡ beginToken → Stepped b a s (beginAt b a s)
   unfolding beginAt Stepped
-  begin-stepped =
+  begin-stepped word =
       let from : ℕ = s .at + 4 in
       let zero : ℕ = zeroFrom b (a .«structure_end» - from) from in
       by-test (Stepped b a s) (leb (a .«structure_end») zero) _ _ (λ _. inl refl)
@@ -137,25 +137,27 @@ module _ (b : List ℕ) (a : Areas) (s : State) where
           within = ltb-false _ _ h;
         },
         opens _ (event-begins b _ refl) (omega arith) refl,
+        word,
       )
 
-  property-stepped : s .«takes_property» ≡ true → Stepped b a s (propertyAt b a s)
+  property-stepped : wordAt b (s .at) ≡ propertyToken → s .«takes_property» ≡ true → Stepped b a s (propertyAt b a s)
   unfolding propertyAt Stepped
-  property-stepped r =
+  property-stepped word r =
       let name : ℕ = a .strings + wordAt b (s .at + 8) in
       by-test (Stepped b a s) (wholeAt b (a .«structure_end») (s .at)) _ _
       (λ h. let w = whole-is b (a .«structure_end») (s .at) h in
       by-test (Stepped b a s) (leb (a .«strings_end») (zeroFrom b (a .«strings_end» - name) name)) _ _ (λ _. inr refl)
-      λ _. (record { on = omega arith; within = omega (arith, w .words, w .ends) }, adds _ (event-has b _ refl) refl r refl))
+      λ _. (record { on = omega arith; within = omega (arith, w .words, w .ends) }, adds _ (event-has b _ refl) refl r refl, word))
       (λ _. inl refl)
 
-  end-stepped : ltb (a .«structure_end» - s .at) 4 ≡ false → Stepped b a s (endAt s)
+  end-stepped : ltb (a .«structure_end» - s .at) 4 ≡ false → wordAt b (s .at) ≡ endToken → Stepped b a s (endAt s)
   unfolding endAt Stepped
-  end-stepped k =
+  end-stepped k word =
       by-test (Stepped b a s) (eqb (s .depth) 0) _ _ (λ _. inl refl)
       λ h. let n : s .depth ≡ 0 → ⊥ = eqb-false _ _ h in (
         record { on = omega arith; within = omega (arith, ltb-false (a .«structure_end» - s .at) 4 k) },
         closes (event-ends b _ refl) (omega (arith, n)) refl,
+        word,
       )
 
   skip-stepped : ltb (a .«structure_end» - s .at) 4 ≡ false → Stepped b a s (skipAt s)
@@ -173,9 +175,9 @@ module _ (b : List ℕ) (a : Areas) (s : State) where
   step-stepped =
       let word : ℕ = wordAt b (s .at) in
       by-test (Stepped b a s) (ltb (a .«structure_end» - s .at) 4) _ _ (λ _. inl refl)
-      λ k. by-test (Stepped b a s) (eqb word beginToken) _ _ (λ _. begin-stepped)
-      λ _. by-test (Stepped b a s) (eqb word endToken) _ _ (λ _. end-stepped k)
-      λ _. by-test (Stepped b a s) (eqb word propertyToken) _ _ (λ _. by-test (Stepped b a s) (s .«takes_property») _ _ property-stepped (λ _. inl refl))
+      λ k. by-test (Stepped b a s) (eqb word beginToken) _ _ (λ e. begin-stepped (eqb-true word beginToken e))
+      λ _. by-test (Stepped b a s) (eqb word endToken) _ _ (λ e. end-stepped k (eqb-true word endToken e))
+      λ _. by-test (Stepped b a s) (eqb word propertyToken) _ _ (λ e. by-test (Stepped b a s) (s .«takes_property») _ _ (property-stepped (eqb-true word propertyToken e)) (λ _. inl refl))
       λ _. by-test (Stepped b a s) (eqb word skipToken) _ _ (λ _. skip-stepped k)
       λ _. by-test (Stepped b a s) (eqb word finalToken) _ _ (λ _. final-stepped) (λ _. inl refl)
 

@@ -16,12 +16,13 @@ use Rattle.fdt_format.specs.declared.State.{State}
 use Rattle.fdt_format.specs.declared.Step.the-variants as step
 use Rattle.fdt_format.specs.Description.{_≔_}
 use Rattle.fdt_format.specs.Events.{Event, begins, has, ends}
-use Rattle.fdt_format.specs.Tokens.{beginToken, endToken, propertyToken, finalToken, beginBytes, propertyBytes, endBytes, finalBytes}
-use Rattle.fdt_format.specs.Step.{zeroFrom, beginAt, propertyAt, endAt, finalAt, stepAt}
+use Rattle.fdt_format.specs.Tokens.{beginToken, endToken, propertyToken, skipToken, finalToken, beginBytes, propertyBytes, endBytes, finalBytes}
+use Rattle.fdt_format.specs.Step.{zeroFrom, beginAt, propertyAt, endAt, past, finalAt, stepAt}
 use Rattle.fdt_format.specs.Reading.{eventAt}
 use Rattle.fdt_format.specs.Blob.{offsetOf, eventSize}
+use Rattle.fdt_format.specs.Blanks.{Piece, token, blank}
 use Rattle.fdt_format.proofs.Named.{zero-found, name-read}
-use Rattle.fdt_format.proofs.Steps.{is-whole, event-begins, event-ends, event-has}
+use Rattle.fdt_format.proofs.Steps.{is-whole, event-begins, event-ends, event-has, step-skip}
 use Rattle.fdt_format.proofs.Words.{BytesAt, bytes-left, bytes-right, bytes-take, bytes-fits, number-at, cell-at}
 
 -- ---- what each event makes of a state
@@ -58,7 +59,7 @@ round-from at n m = omega arith
 pub word-at : {b : List ℕ} {at : ℕ} (v : ℕ) → BytesAt b at (bigEndian 4 v) → v < 2 ^ 32 → wordAt b at ≡ v
 word-at v h l = number-at 4 v h (omega arith)
 
--- ---- the entries of events
+-- ---- the entries of pieces
 
 module _ (a : Areas) (names : List (List ℕ)) where
   -- the entry of an event at a state
@@ -67,10 +68,11 @@ module _ (a : Areas) (names : List (List ℕ)) where
   entryOf s (has (name ≔ value)) = record { token = propertyToken; place = s .at; name = a .strings + offsetOf names name; size = length value }
   entryOf s ends = record { token = endToken; place = s .at; name = 0; size = 0 }
 
-  -- the entries of events from a state on
-  unfoldable pub entriesOf : State → List Event → List Entry
+  -- the entries of pieces from a state on
+  unfoldable pub entriesOf : State → List Piece → List Entry
   entriesOf s [] = []
-  entriesOf s (e ∷ es) = entryOf s e ∷ entriesOf (stateAfter s e) es
+  entriesOf s (token e ∷ ps) = entryOf s e ∷ entriesOf (stateAfter s e) ps
+  entriesOf s (blank ∷ ps) = entriesOf (past s) ps
 
 -- ---- a token is read as its event
 
@@ -142,6 +144,9 @@ module _ (b : List ℕ) (a : Areas) (names : List (List ℕ)) (s : State) where
             rw (le-ltb _ _ t₁, w, room, whole, w₁, w₂, f, lt-leb _ _ k);
         event-is = event-has b (entryOf a names s (has (name ≔ value))) refl ∙ rw (name-read (n .plain) (n .held), bytes-take v (length value) refl);
       }
+
+  pub skip-read : BytesAt b (s .at) (bigEndian 4 skipToken) → s .at + 4 ≤ a .«structure_end» → stepAt b a s ≡ step.Skip (past s)
+  skip-read h le = step-skip b a s le (word-at skipToken h (omega arith))
 
   pub final-read : (strings : List ℕ) → BytesAt b (s .at) (finalBytes strings) → s .at + 4 ≡ a .«structure_end» → s .depth ≡ 0 → stepAt b a s ≡ step.Final
   unfolding finalBytes stepAt finalAt

@@ -66,13 +66,15 @@ unfoldable pub numbersOf : List Reservation → List ℕ
 numbersOf [] = []
 numbersOf (reservation address size ∷ rs) = address ∷ size ∷ numbersOf rs
 
--- the blob of reservations, a boot number and events
-unfoldable pub blobFrom : List Reservation → ℕ → List Event → List ℕ
-blobFrom rs boot es =
-    let structure : List ℕ = structureBytes (namesOf es) es in
-    let strings : List ℕ = joined (namesOf es) in
+-- the blob of reservations, a boot number, a structure up to its final word, and strings
+abbrev pub blobAround : List Reservation → ℕ → (structure strings : List ℕ) → List ℕ
+blobAround rs boot structure strings =
     headerBytes (length rs) (structureStart (length rs) + length structure + 4) (length strings) boot
     ++ (reservationBytes (numbersOf rs) ++ (structure ++ finalBytes strings))
+
+-- the blob of reservations, a boot number and events
+unfoldable pub blobFrom : List Reservation → ℕ → List Event → List ℕ
+blobFrom rs boot es = blobAround rs boot (structureBytes (namesOf es) es) (joined (namesOf es))
 
 -- the blob of a description
 unfoldable pub blobOf : Description → List ℕ

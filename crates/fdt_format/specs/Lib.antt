@@ -1,3 +1,4 @@
+pub mod Blanks
 pub mod Blob
 pub mod Description
 pub mod Events

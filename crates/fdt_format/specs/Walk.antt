@@ -1,7 +1,9 @@
 -- Reading the structure token by token, to the final word or the first that is refused.
+use mathlib.Core.Path.{_≡_}
 use mathlib.Core.Bool.{false}
 use mathlib.Core.List.{List, [], _∷_}
 use Prim.Native.Nat.{ℕ, zero, suc, _-_}
+use Rattle.fdt_bytes.specs.BigEndian.{wordAt}
 use Rattle.fdt_format.specs.declared.Areas.{Areas}
 use Rattle.fdt_format.specs.declared.Entry.{Entry}
 use Rattle.fdt_format.specs.declared.State.{State}
@@ -40,3 +42,13 @@ walk b a s = steps (stepAt b a) (suc (a .«structure_end» - s .at)) s
 -- where a walk begins: no node is open, and no property may come here
 unfoldable pub walkStart : Areas → State
 walkStart a = record { at = a .structure; depth = 0; «takes_property» = false }
+
+-- each entry has its token at its place
+unfoldable pub TokensAt : List ℕ → List Entry → Type 0
+TokensAt b [] = Unit {0}
+TokensAt b (t ∷ ts) = (wordAt b (t .place) ≡ t .token) × TokensAt b ts
+
+-- the walk from a state on skips no word: entry follows entry, up to the final word
+pub data SkipsNone (b : List ℕ) (a : Areas) : State → Type 0 where
+  final : {s : State} → stepAt b a s ≡ step.Final → SkipsNone b a s
+  entry : {s : State} {t : Entry} {s' : State} → stepAt b a s ≡ step.Entry t s' → SkipsNone b a s' → SkipsNone b a s

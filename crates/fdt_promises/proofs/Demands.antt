@@ -2,22 +2,34 @@
 -- The calls, their tests, answers and effects are defined in fdt_calls, specs/Calls.antt; a run in specs/Run.antt.
 use mathlib.Core.Path.{_≡_}
 use mathlib.Core.Bool.{true, false}
-use mathlib.Core.List.{List, []}
+use mathlib.Core.List.{List, [], _++_}
 use mathlib.Core.Logic.{_↔_}
 use mathlib.Core.Option.{some}
-use Prim.Native.Nat.{ℕ, _+_}
+use Prim.Native.Nat.{ℕ, _+_, _/_, _≤_, _<_, _^_}
 use lib.ListN.{length}
-use Rattle.fdt_bytes.specs.BigEndian.{cellBytes}
+use Rattle.fdt_bytes.specs.BigEndian.{wordAt, cellBytes}
+use Rattle.fdt_bytes.specs.Splice.{splice}
 use Rattle.fdt_strings.specs.Entries.{entry, joined}
 use Rattle.fdt_values.specs.Value.{Value, valueBytes}
+use Rattle.fdt_format.specs.Blanks.{Piece, eventsOf, spacedBlob, wordsFour}
 use Rattle.fdt_format.specs.Blob.{namesOf, eventsSize, blobOf, WellFormed}
-use Rattle.fdt_format.specs.Description.{Description}
+use Rattle.fdt_format.specs.declared.Areas.{Areas}
+use Rattle.fdt_format.specs.declared.State.{State}
+use Rattle.fdt_format.specs.Description.{Nodes, Description}
+use Rattle.fdt_format.specs.Events.{Event, events}
 use Rattle.fdt_format.specs.Foreign.{AllRead, foreign}
 use Rattle.fdt_header.specs.Header.{structureStart}
-use Rattle.fdt_format.specs.Reading.{reading}
+use Rattle.fdt_format.specs.Reading.{areasOf, reading}
+use Rattle.fdt_format.specs.Step.{past}
+use Rattle.fdt_format.specs.Tokens.{skipToken}
+use Rattle.fdt_format.specs.Walk.{walk, walkStart, SkipsNone}
+use Rattle.fdt_format.proofs.Blanked.{read-spaced, read-overwritten}
 use Rattle.fdt_format.proofs.Foreign.{foreign-read}
 use Rattle.fdt_format.proofs.ReadBack.{read-blob}
 use Rattle.fdt_format.proofs.Strings.{Distinct, names-once}
+use Rattle.fdt_format.proofs.Walks.{walk-skip}
+use Rattle.fdt_walk.specs.ReaderWalk.{readerWalk}
+use Rattle.fdt_walk.proofs.Walked.{reader-skip}
 use Rattle.fdt_reader.specs.declared.ReadAnswer.{ReadAnswer}
 use Rattle.fdt_reader.specs.Reader.{Read}
 use Rattle.fdt_record.specs.declared.Answer.{Answer}
@@ -42,7 +54,7 @@ use Rattle.fdt_promises.proofs.PastUsable.{past-usable, shown-usable}
 use Rattle.fdt_promises.proofs.Described.{run-holds, run-fits, run-given, run-shown, run-length, run-read, same-runs, same-history}
 use Rattle.fdt_promises.proofs.Examples.{empty-run, node-run, examples-shown}
 use Rattle.fdt_promises.proofs.Idle.{same-told, same-kinds, kinds-as-bytes, same-phandle, one-more}
-use Rattle.fdt_promises.proofs.ReadBack.{read-back}
+use Rattle.fdt_promises.proofs.ReadBack.{none-skipped, read-back}
 use Rattle.fdt_promises.proofs.Starred.{starred-hold}
 
 -- ---- demand 1: any call with any arguments, over any record and buffers of any size
@@ -162,6 +174,30 @@ phandle-as-u32 = same-phandle
 -- One more call makes no difference, if it shows the blob, or if it is refused and records no phandle.
 pub idle-call : (r q : Run) → OneMore r q → description q ≡ description r
 idle-call = one-more
+
+-- ---- words 4, which describe nothing (document 02, request 3/14)
+
+-- In any blob, at any state with a whole word 4 inside the structure, reading and reader go on as from 4 bytes further.
+pub word-4-skipped : (b : List ℕ) (a : Areas) (s : State) → s .at + 4 ≤ a .«structure_end» → wordAt b (s .at) ≡ skipToken
+    → (walk b a s ≡ walk b a (past s)) × (readerWalk b a s ≡ readerWalk b a (past s))
+word-4-skipped b a s h w = (walk-skip b a s h w, reader-skip b a s h w)
+
+-- A description is read, wherever words 4 are put between the tokens of its blob.
+pub words-4-between : (d : Description) (ps : List Piece) → WellFormed d → eventsOf ps ≡ events (d .nodes) [] → length (spacedBlob d ps) < 2 ^ 32
+    → reading (spacedBlob d ps) ≡ some d
+words-4-between = read-spaced
+
+-- If words 4 are written over some tokens of its blob, for example over those of a property or of a node, the nodes that the others
+-- describe are read.
+pub words-4-over : (d : Description) → WellFormed d → (left : Nodes) (before out after : List Event)
+    → events (d .nodes) [] ≡ before ++ (out ++ after) → events left [] ≡ before ++ after
+    → reading (splice (structureStart (length (d .reservations)) + eventsSize before) (wordsFour (eventsSize out / 4)) (blobOf d))
+    ≡ some (record { reservations = d .reservations; boot = d .boot; nodes = left })
+words-4-over = read-overwritten
+
+-- A finished run has none: the reading of its blob skips no word.
+pub no-word-4 : (r : Run) → Finishes r → SkipsNone (blob r) (areasOf (blob r)) (walkStart (areasOf (blob r)))
+no-word-4 = none-skipped
 
 -- ---- document 01's cases
 

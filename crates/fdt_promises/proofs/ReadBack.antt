@@ -8,15 +8,15 @@ use Rattle.fdt_header.specs.Header.{structureStart}
 use Rattle.fdt_format.specs.declared.Areas.{Areas}
 use Rattle.fdt_format.specs.declared.Entry.{Entry}
 use Rattle.fdt_format.specs.declared.State.{State}
-use Rattle.fdt_format.specs.Blob.{namesOf, eventsSize, blobFrom, blobOf}
+use Rattle.fdt_format.specs.Blob.{namesOf, eventsSize, blobOf}
+use Rattle.fdt_format.specs.Blanks.{token}
 use Rattle.fdt_format.specs.Description.{_≔_}
 use Rattle.fdt_format.specs.Events.{Event, begins, has, ends, events}
 use Rattle.fdt_format.specs.Reading.{areasOf, eventAt}
-use Rattle.fdt_format.specs.Walk.{good, walkStart}
-use Rattle.fdt_format.proofs.Nodes.{accepted-events}
-use Rattle.fdt_format.proofs.ReadBack.{structure-from, strings-from, walk-from}
+use Rattle.fdt_format.specs.Walk.{good, walk, walkStart, SkipsNone}
+use Rattle.fdt_format.proofs.ReadBack.{structure-from, strings-from, tokens-events, events-read}
 use Rattle.fdt_format.proofs.TokensRead.{stateAfter, entryOf, entriesOf}
-use Rattle.fdt_format.proofs.Written.{Walked}
+use Rattle.fdt_format.proofs.Written.{Chain, chain-walked, chain-events, chain-plain}
 use Rattle.fdt_walk.specs.Depth.{mostOpen}
 use Rattle.fdt_walk.proofs.Capped.{Shallow, shallow-nodes}
 use Rattle.fdt_reader.specs.declared.ReadAnswer.{ReadAnswer}
@@ -25,7 +25,7 @@ use Rattle.fdt_reader.specs.Reader.{numberOf, filled, Read}
 use Rattle.fdt_reader.proofs.Exactly.{number-exactly, accepted-tells, refused-unaltered, refused-valueless}
 use Rattle.fdt_record.specs.Limits.{mostDepth}
 use Rattle.fdt_opening.specs.Opening.{count}
-use Rattle.fdt_promises.specs.Run.{reservationsOf, Run, eventsIn, bootIn, Finishes, blob}
+use Rattle.fdt_promises.specs.Run.{Run, eventsIn, bootIn, Finishes, blob}
 use Rattle.fdt_promises.specs.ReadBack.{entryAt, entriesFrom, stringsIn, entriesIn, ReadWhole, RefusedShort, ReadBack}
 use Rattle.fdt_promises.proofs.Described.{toldBy, run-count, at-end, run-told, run-read}
 
@@ -38,7 +38,7 @@ entry-at a names s (has (name ≔ value)) = refl
 entry-at a names s ends = refl
 
 -- the entries that a walk finds depend only on where it begins and where the strings do
-entries-from : (a : Areas) (names : List (List ℕ)) (es : List Event) (s : State) → entriesOf a names s es ≡ entriesFrom names (a .strings) (s .at) es
+entries-from : (a : Areas) (names : List (List ℕ)) (es : List Event) (s : State) → entriesOf a names s (map token es) ≡ entriesFrom names (a .strings) (s .at) es
 unfolding entriesOf entriesFrom stateAfter
 entries-from a names [] s = refl
 entries-from a names (e ∷ es) s = rw (entry-at a names s e, entries-from a names es (stateAfter s e))
@@ -53,7 +53,7 @@ same-depth = refl
 record Found (n : ℕ) (es : List Event) (b : List ℕ) : Type 0 where
   structure : areasOf b .structure ≡ structureStart n
   strings : areasOf b .strings ≡ structureStart n + eventsSize es + 4
-  walked : Walked b (areasOf b) (namesOf es) (walkStart (areasOf b)) es
+  read : Chain b (areasOf b) (namesOf es) (walkStart (areasOf b)) (map token es)
 
 -- a walk finds one list of entries
 good-same : {ts us : List Entry} → good ts ≡ good us → ts ≡ us
@@ -61,26 +61,37 @@ good-same q = cc
 
 module _ (r : Run) (f : Finishes r) where
   found : Found (count (r .numbers)) (eventsIn r) (blob r)
-  unfolding blobOf
   found =
       let t = run-told r f in
-      let rs = reservationsOf (r .numbers) in
-      let es = events (t .nodes) [] in
-      let x : Found (length rs) es (blobFrom rs (bootIn r) es) = record {
-        structure = structure-from rs (bootIn r) es (t .fits .boot) (t .fits .size);
-        strings = strings-from rs (bootIn r) es (t .fits .boot) (t .fits .size);
-        walked = walk-from rs (bootIn r) es (t .fits .boot) (t .fits .size) (t .fits .names) (accepted-events (t .nodes));
+      let d = toldBy r (t .nodes) in
+      let x : Found (length (d .reservations)) (events (t .nodes) []) (blobOf d) = record {
+        structure = structure-from d (t .fits);
+        strings = strings-from d (t .fits);
+        read = events-read d (t .fits);
       }
       in rw (← run-count r, ← t .events-are, t .bytes) x
 
   -- the entries that the walk finds are the run's
-  entries-are : entriesOf (areasOf (blob r)) (namesOf (eventsIn r)) (walkStart (areasOf (blob r))) (eventsIn r) ≡ entriesIn r
+  entries-are : entriesOf (areasOf (blob r)) (namesOf (eventsIn r)) (walkStart (areasOf (blob r))) (map token (eventsIn r)) ≡ entriesIn r
   unfolding walkStart stringsIn entriesIn
   entries-are = entries-from (areasOf (blob r)) (namesOf (eventsIn r)) (eventsIn r) (walkStart (areasOf (blob r))) ∙ rw (found .structure, found .strings)
 
   -- they mean the events
-  events-read : map (eventAt (blob r)) (entriesIn r) ≡ eventsIn r
-  events-read = ap (map (eventAt (blob r))) (sym entries-are) ∙ found .walked .events-are
+  entries-mean : map (eventAt (blob r)) (entriesIn r) ≡ eventsIn r
+  entries-mean =
+      ap (map (eventAt (blob r))) (sym entries-are)
+      ∙ chain-events (blob r) (areasOf (blob r)) (namesOf (eventsIn r)) (map token (eventsIn r)) (walkStart (areasOf (blob r))) (found .read)
+      ∙ tokens-events (eventsIn r)
+
+  -- no word is skipped
+  pub none-skipped : SkipsNone (blob r) (areasOf (blob r)) (walkStart (areasOf (blob r)))
+  none-skipped = chain-plain (blob r) (areasOf (blob r)) (namesOf (eventsIn r)) (eventsIn r) (walkStart (areasOf (blob r))) (found .read)
+
+  -- the walk finds the run's entries
+  walked : walk (blob r) (areasOf (blob r)) (walkStart (areasOf (blob r))) ≡ good (entriesIn r)
+  walked =
+      chain-walked (blob r) (areasOf (blob r)) (namesOf (eventsIn r)) (map token (eventsIn r)) (walkStart (areasOf (blob r))) (found .read)
+      ∙ ap good entries-are
 
   -- no more nodes are open at once than the reader takes
   shallow : Shallow mostOpen (eventsIn r)
@@ -100,7 +111,7 @@ module _ (r : Run) (f : Finishes r) where
     whole-read room =
         let n = run-told r f .events-are in
         let t = accepted-tells call _ describes (rw n room) in
-        let same : t .entries ≡ entriesIn r = good-same (sym (t .walked) ∙ found .walked .walked ∙ ap good entries-are) in
+        let same : t .entries ≡ entriesIn r = good-same (sym (t .walked) ∙ walked) in
         record { number = t .number; values = t .values ∙ rw (run-count r, n); list = t .list ∙ ap (filled before) same }
 
     short-refused : length before / 4 < length (eventsIn r) → RefusedShort before after a
@@ -110,4 +121,4 @@ module _ (r : Run) (f : Finishes r) where
         record { number = e; values = refused-valueless a n; list = refused-unaltered call n }
 
     pub read-back : ReadBack r before after a
-    read-back = record { events-are = events-read; with-room = whole-read; too-short = short-refused }
+    read-back = record { events-are = entries-mean; with-room = whole-read; too-short = short-refused }
