@@ -44,7 +44,7 @@ module _
 follow-same : (b : List ℕ) (a : Areas) (s : State) (x : Step) → Stepped b a s x → (g h : State → Walk) → ((s' : State) → Moved a s s' → g s' ≡ h s') → follow x g ≡ follow x h
 unfolding Stepped
 follow-same b a s (step.Entry t s') m g h same = ap (more t) (same s' (m .0))
-follow-same b a s (step.Skip s') m g h same = same s' (m .0)
+follow-same b a s (step.Skip s') m g h same = ap (λ (w : Walk). follow (step.Skip s') (λ _. w)) (same s' (m .0))
 follow-same b a s step.Final m g h same = refl
 follow-same b a s (step.Bad r) m g h same = refl
 
