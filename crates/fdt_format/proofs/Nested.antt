@@ -17,7 +17,7 @@ use Rattle.fdt_format.specs.Description.{Property, Nodes, Reservation, D
 use Rattle.fdt_format.specs.Events.{Event, begins, has, ends, events, nodesOf}
 use Rattle.fdt_format.specs.Moves.{Kind, opens, adds, closes}
 use Rattle.fdt_format.specs.Reading.{areasOf, goodHeader, eventAt, walkNodes, described, readReservations, readNodes, reading}
-use Rattle.fdt_format.specs.Step.{stepAt}
+use Rattle.fdt_format.specs.Step.{past, stepAt}
 use Rattle.fdt_format.specs.Walk.{Walk, bad, good, more, follow, steps, walk, walkStart, TokensAt}
 use Rattle.fdt_format.proofs.Nodes.{Accepted, described-by, nodes-exactly}
 use Rattle.fdt_format.proofs.Steps.{Stepped, step-stepped}
@@ -75,26 +75,24 @@ split t (good rest) ts q = record { rest = rest; is = refl; all = cc }
 module _ (b : List ℕ) where
   -- by the token at a state, if the walk after it has its events in order
   here : (a : Areas) (on : State → Walk) (s : State) → Open s → ((s' : State) → Open s' → (ts : List Entry) → on s' ≡ good ts → Ordered s' (map (eventAt b) ts))
-      → (x : Step) → Stepped b a s x → (ts : List Entry) → follow x on ≡ good ts → Ordered s (map (eventAt b) ts)
+      → (x : Step) → Stepped b a s x → (ts : List Entry) → follow s x on ≡ good ts → Ordered s (map (eventAt b) ts)
   unfolding Stepped Open Ordered Accepted
   here a on s o ih (step.Entry t s') k ts q =
       let p : Split t (on s') ts = split t (on s') ts q in
       let h : Ordered s' (map (eventAt b) (p .rest)) = ih s' (open-on (k .1) o) (p .rest) (p .is) in
       subst (λ (l : List Entry). Ordered s (map (eventAt b) l)) (p .all) (front (map (eventAt b) (p .rest)) (k .1) o h)
-  here a on s o ih (step.Skip s') k ts q =
-      let h : Ordered s' (map (eventAt b) ts) = ih s' (subst Open (sym (k .1)) o) ts q in
-      subst (λ (x : State). Ordered x (map (eventAt b) ts)) (k .1) h
+  here a on s o ih step.Skip k ts q = ih (past s) o ts q
   here a on s o ih step.Final k ts q = let n : [] ≡ ts = cc in rw (← n) k
   here a on s o ih (step.Bad r) k ts q = absurd (bad-not-good q)
 
   -- by the step at a state, if the entries after it have their tokens at their places
   tokens-here : (a : Areas) (on : State → Walk) (s : State) → ((s' : State) (ts : List Entry) → on s' ≡ good ts → TokensAt b ts)
-      → (x : Step) → Stepped b a s x → (ts : List Entry) → follow x on ≡ good ts → TokensAt b ts
+      → (x : Step) → Stepped b a s x → (ts : List Entry) → follow s x on ≡ good ts → TokensAt b ts
   unfolding Stepped TokensAt
   tokens-here a on s ih (step.Entry t s') k ts q =
       let p : Split t (on s') ts = split t (on s') ts q in
       subst (TokensAt b) (p .all) (k .2, ih s' (p .rest) (p .is))
-  tokens-here a on s ih (step.Skip s') k ts q = ih s' ts q
+  tokens-here a on s ih step.Skip k ts q = ih (past s) ts q
   tokens-here a on s ih step.Final k ts q = let n : [] ≡ ts = cc in rw (← n) tt
   tokens-here a on s ih (step.Bad r) k ts q = absurd (bad-not-good q)
 

@@ -21,7 +21,7 @@ use Rattle.fdt_format.specs.Description.{_≔_}
 use Rattle.fdt_format.specs.Events.{begins, has, ends}
 use Rattle.fdt_format.specs.Moves.{Moved, Kind, opens, adds, closes}
 use Rattle.fdt_format.specs.Reading.{nameAt, eventAt}
-use Rattle.fdt_format.specs.Step.{zeroFrom, wholeAt, sizeAt, beginAt, propertyAt, endAt, past, skipAt, finalAt, stepAt}
+use Rattle.fdt_format.specs.Step.{zeroFrom, wholeAt, sizeAt, beginAt, propertyAt, endAt, past, finalAt, stepAt}
 use Rattle.fdt_format.specs.Tokens.{beginToken, endToken, propertyToken, propertySize, skipToken, finalToken}
 
 -- what holds of both answers of a test
@@ -112,10 +112,10 @@ module _ (b : List ℕ) (t : Entry) where
 
 -- ---- how a token moves the state
 
--- an entry moves the place on, begins a node, is a property or ends a node, and has its token at its place; a word that is skipped only moves the place on; the final word comes where no node is open; a token is refused only for its structure or its name offset
+-- an entry moves the place on, begins a node, is a property or ends a node, and has its token at its place; a word 4 is whole; the final word comes where no node is open; a token is refused only for its structure or its name offset
 unfoldable pub Stepped : List ℕ → Areas → State → Step → Type 0
 Stepped b a s (step.Entry t s') = Moved a s s' × Kind b s t s' × (wordAt b (t .place) ≡ t .token)
-Stepped b a s (step.Skip s') = Moved a s s' × (s' ≡ past s)
+Stepped b a s step.Skip = s .at + 4 ≤ a .«structure_end»
 Stepped b a s step.Final = s .depth ≡ 0
 Stepped b a s (step.Bad r) = (r ≡ Structure) ⊎ (r ≡ NameOffset)
 
@@ -160,10 +160,6 @@ module _ (b : List ℕ) (a : Areas) (s : State) where
         word,
       )
 
-  skip-stepped : ltb (a .«structure_end» - s .at) 4 ≡ false → Stepped b a s (skipAt s)
-  unfolding Stepped
-  skip-stepped k = (record { on = omega arith; within = omega (arith, ltb-false (a .«structure_end» - s .at) 4 k) }, refl)
-
   final-stepped : Stepped b a s (finalAt a s)
   unfolding finalAt Stepped
   final-stepped =
@@ -178,13 +174,17 @@ module _ (b : List ℕ) (a : Areas) (s : State) where
       λ k. by-test (Stepped b a s) (eqb word beginToken) _ _ (λ e. begin-stepped (eqb-true word beginToken e))
       λ _. by-test (Stepped b a s) (eqb word endToken) _ _ (λ e. end-stepped k (eqb-true word endToken e))
       λ _. by-test (Stepped b a s) (eqb word propertyToken) _ _ (λ e. by-test (Stepped b a s) (s .«takes_property») _ _ (property-stepped (eqb-true word propertyToken e)) (λ _. inl refl))
-      λ _. by-test (Stepped b a s) (eqb word skipToken) _ _ (λ _. skip-stepped k)
+      λ _. by-test (Stepped b a s) (eqb word skipToken) _ _ (λ _. omega (arith, ltb-false (a .«structure_end» - s .at) 4 k))
       λ _. by-test (Stepped b a s) (eqb word finalToken) _ _ (λ _. final-stepped) (λ _. inl refl)
 
   -- a whole word 4 inside the structure is skipped
-  pub step-skip : s .at + 4 ≤ a .«structure_end» → wordAt b (s .at) ≡ skipToken → stepAt b a s ≡ step.Skip (past s)
+  pub step-skip : s .at + 4 ≤ a .«structure_end» → wordAt b (s .at) ≡ skipToken → stepAt b a s ≡ step.Skip
   unfolding stepAt
   step-skip h w = let whole : 4 ≤ a .«structure_end» - s .at = omega arith in rw (le-ltb _ _ whole, w)
+
+  -- a word 4 moves the place on
+  pub skip-moved : s .at + 4 ≤ a .«structure_end» → Moved a s (past s)
+  skip-moved h = record { on = omega arith; within = h }
 
   pub moved : {t : Entry} {s' : State} → stepAt b a s ≡ step.Entry t s' → Moved a s s'
   unfolding Stepped

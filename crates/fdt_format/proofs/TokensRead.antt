@@ -145,7 +145,7 @@ module _ (b : List ℕ) (a : Areas) (names : List (List ℕ)) (s : State) where
         event-is = event-has b (entryOf a names s (has (name ≔ value))) refl ∙ rw (name-read (n .plain) (n .held), bytes-take v (length value) refl);
       }
 
-  pub skip-read : BytesAt b (s .at) (bigEndian 4 skipToken) → s .at + 4 ≤ a .«structure_end» → stepAt b a s ≡ step.Skip (past s)
+  pub skip-read : BytesAt b (s .at) (bigEndian 4 skipToken) → s .at + 4 ≤ a .«structure_end» → stepAt b a s ≡ step.Skip
   skip-read h le = step-skip b a s le (word-at skipToken h (omega arith))
 
   pub final-read : (strings : List ℕ) → BytesAt b (s .at) (finalBytes strings) → s .at + 4 ≡ a .«structure_end» → s .depth ≡ 0 → stepAt b a s ≡ step.Final

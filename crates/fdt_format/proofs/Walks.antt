@@ -12,7 +12,7 @@ use Rattle.fdt_bytes.specs.BigEndian.{wordAt}
 use Rattle.fdt_format.specs.Step.{past, stepAt}
 use Rattle.fdt_format.specs.Tokens.{skipToken}
 use Rattle.fdt_format.specs.Walk.{Walk, more, follow, steps, walk}
-use Rattle.fdt_format.proofs.Steps.{Stepped, step-stepped, step-skip}
+use Rattle.fdt_format.proofs.Steps.{Stepped, step-stepped, step-skip, skip-moved}
 
 -- ---- any walk, whatever it tells
 
@@ -41,18 +41,18 @@ module _
 -- ---- the reading's walk
 
 -- what follows a token is the same for two walks that agree after it
-follow-same : (b : List ℕ) (a : Areas) (s : State) (x : Step) → Stepped b a s x → (g h : State → Walk) → ((s' : State) → Moved a s s' → g s' ≡ h s') → follow x g ≡ follow x h
+follow-same : (b : List ℕ) (a : Areas) (s : State) (x : Step) → Stepped b a s x → (g h : State → Walk) → ((s' : State) → Moved a s s' → g s' ≡ h s') → follow s x g ≡ follow s x h
 unfolding Stepped
 follow-same b a s (step.Entry t s') m g h same = ap (more t) (same s' (m .0))
-follow-same b a s (step.Skip s') m g h same = ap (λ (w : Walk). follow (step.Skip s') (λ _. w)) (same s' (m .0))
+follow-same b a s step.Skip m g h same = ap (λ (w : Walk). follow s step.Skip (λ _. w)) (same (past s) (skip-moved b a s m))
 follow-same b a s step.Final m g h same = refl
 follow-same b a s (step.Bad r) m g h same = refl
 
 -- a walk is its first token and the walk after it
-pub walk-step : (b : List ℕ) (a : Areas) (s : State) → walk b a s ≡ follow (stepAt b a s) (walk b a)
+pub walk-step : (b : List ℕ) (a : Areas) (s : State) → walk b a s ≡ follow s (stepAt b a s) (walk b a)
 unfolding walk steps
 walk-step b a s =
-    first-step a (λ (s : State). follow (stepAt b a s)) (λ s. follow-same b a s (stepAt b a s) (step-stepped b a s)) (steps (stepAt b a)) (λ _ _. refl) s
+    first-step a (λ (s : State). follow s (stepAt b a s)) (λ s. follow-same b a s (stepAt b a s) (step-stepped b a s)) (steps (stepAt b a)) (λ _ _. refl) s
 
 -- a word 4 at any state describes nothing: the walk from there is the walk from 4 bytes on
 pub walk-skip : (b : List ℕ) (a : Areas) (s : State) → s .at + 4 ≤ a .«structure_end» → wordAt b (s .at) ≡ skipToken → walk b a s ≡ walk b a (past s)

@@ -76,7 +76,7 @@ module _ (b : List ℕ) (a : Areas) (names : List (List ℕ)) where
   unfoldable pub Chain : State → List Piece → Type 0
   Chain s [] = stepAt b a s ≡ step.Final
   Chain s (token e ∷ ps) = Read b a names s e × Chain (stateAfter s e) ps
-  Chain s (blank ∷ ps) = (stepAt b a s ≡ step.Skip (past s)) × Chain (past s) ps
+  Chain s (blank ∷ ps) = (stepAt b a s ≡ step.Skip) × Chain (past s) ps
 
   -- the walk finds the entries of the pieces
   pub chain-walked : (ps : List Piece) (s : State) → Chain s ps → walk b a s ≡ good (entriesOf a names s ps)

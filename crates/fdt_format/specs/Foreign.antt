@@ -166,7 +166,7 @@ foreign =
     -- a token ends inside the structure, with its name or value and the padding (in a whole blob, the next token would be refused too)
     ∷ token (2 ∷ []) 4 (step.Entry (record { token = 2; place = 0; name = 0; size = 0 }) (record { at = 4; depth = 0; «takes_property» = false }))
     ∷ token (2 ∷ []) 3 (step.Bad Structure)
-    ∷ token (4 ∷ []) 4 (step.Skip (record { at = 4; depth = 1; «takes_property» = true }))
+    ∷ token (4 ∷ []) 4 step.Skip
     ∷ token (4 ∷ []) 3 (step.Bad Structure)
     ∷ token (1 ∷ 0x61000000 ∷ []) 8 (step.Entry (record { token = 1; place = 0; name = 4; size = 0 }) (record { at = 8; depth = 2; «takes_property» = true }))
     ∷ token (1 ∷ 0x61000000 ∷ []) 7 (step.Bad Structure)

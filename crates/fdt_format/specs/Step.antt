@@ -60,13 +60,9 @@ endAt s =
     (record { token = endToken; place = s .at; name = 0; size = 0 })
     (record { at = s .at + 4; depth = s .depth - 1; «takes_property» = false }))
 
--- the state a word further on
+-- the state after a word 4: only the place moves on
 abbrev pub past : State → State
 past s = record { at = s .at + 4; depth = s .depth; «takes_property» = s .«takes_property» }
-
--- word 4: skipped
-abbrev pub skipAt : State → Step
-skipAt s = step.Skip (past s)
 
 -- word 9: no node is open, and the structure ends here
 unfoldable pub finalAt : Areas → State → Step
@@ -82,6 +78,6 @@ stepAt b a s =
     (cond (eqb (wordAt b (s .at)) beginToken) (beginAt b a s)
     (cond (eqb (wordAt b (s .at)) endToken) (endAt s)
     (cond (eqb (wordAt b (s .at)) propertyToken) (cond (s .«takes_property») (propertyAt b a s) (step.Bad Structure))
-    (cond (eqb (wordAt b (s .at)) skipToken) (skipAt s)
+    (cond (eqb (wordAt b (s .at)) skipToken) step.Skip
     (cond (eqb (wordAt b (s .at)) finalToken) (finalAt a s)
     (step.Bad Structure))))))

@@ -11,7 +11,7 @@ use Rattle.fdt_format.specs.declared.Step.{Step}
 use Rattle.fdt_format.specs.declared.Step.the-variants as step
 use Rattle.fdt_format.specs.declared.Unreadable.{Unreadable}
 use Rattle.fdt_format.specs.declared.Unreadable.the-variants.{Structure}
-use Rattle.fdt_format.specs.Step.{stepAt}
+use Rattle.fdt_format.specs.Step.{past, stepAt}
 
 -- refused, or the entries in order
 pub data Walk : Type 0 where
@@ -23,17 +23,17 @@ abbrev pub more : Entry → Walk → Walk
 more t (bad r) = bad r
 more t (good ts) = good (t ∷ ts)
 
--- a token, and the walk after it
-abbrev pub follow : Step → (State → Walk) → Walk
-follow (step.Entry t s) on = more t (on s)
-follow (step.Skip s) on = on s
-follow step.Final on = good []
-follow (step.Bad r) on = bad r
+-- the token at a state, and the walk after it; a word 4 is skipped
+abbrev pub follow : State → Step → (State → Walk) → Walk
+follow s (step.Entry t s') on = more t (on s')
+follow s step.Skip on = on (past s)
+follow s step.Final on = good []
+follow s (step.Bad r) on = bad r
 
 -- at most k tokens; `token` reads the one at a state
 unfoldable pub steps : (State → Step) → ℕ → State → Walk
 steps token zero s = bad Structure
-steps token (suc k) s = follow (token s) (steps token k)
+steps token (suc k) s = follow s (token s) (steps token k)
 
 -- all tokens: each takes at least one byte, so this bound refuses nothing (`walk-step`)
 unfoldable pub walk : List ℕ → Areas → State → Walk

@@ -66,11 +66,10 @@ pub fn number(refusal: Unreadable) -> u32
     }
 }
 
-// The token at a state: an entry with the state after it, a word that is skipped with the state after it, the final word, or a
-// refusal.
+// The token at a state: an entry with the state after it, a word 4, which is skipped, the final word, or a refusal.
 pub enum Step {
     Entry(Entry, State),
-    Skip(State),
+    Skip,
     Final,
     Bad(Unreadable),
 }

@@ -14,7 +14,7 @@ use fdt_format::Unreadable;
 ghost use mathlib.Core.Path.{_≡_};
 ghost use Prim.Native.Nat.{_+_, _-_, _≤_, _<_, _^_};
 ghost use lib.ListN.{length};
-ghost use Rattle.fdt_format.specs.Step.{zeroFrom, sizeAt, beginAt, propertyAt, endAt, skipAt, finalAt, stepAt};
+ghost use Rattle.fdt_format.specs.Step.{zeroFrom, sizeAt, beginAt, propertyAt, endAt, finalAt, stepAt};
 ghost use Rattle.fdt_read_token.specs.Inside.{Inside, InStructure};
 ghost use Rattle.fdt_read_token.specs.Trimmed.{afterLastZero, trimmed, Trimmed};
 
@@ -160,18 +160,6 @@ fn end_at(s: State) -> Step
     )
 }
 
-// Skips a word: only the place moves on.
-fn skip_at(s: State) -> Step
-    requires { ⌜ s .at < 2 ^ 32 ⌝ }
-    ensures { λ r. ⌜ r ≡ skipAt s ⌝ }
-{
-    Step::Skip(State {
-        at: s.at + 4,
-        depth: s.depth,
-        takes_property: s.takes_property,
-    })
-}
-
 // Reads the final word. No node may be open, and the structure must end here.
 fn final_at(a: Areas, s: State) -> Step
     requires { ⌜ s .at < 2 ^ 32 ⌝ }
@@ -209,7 +197,7 @@ pub fn step_at(blob: &[u8], a: Areas, s: State) -> Step
         return Step::Bad(Unreadable::Structure);
     }
     if word == FDT_NOP {
-        return skip_at(s);
+        return Step::Skip;
     }
     if word == FDT_END {
         return final_at(a, s);

@@ -16,7 +16,7 @@ use Rattle.fdt_format.specs.Description.{Property, Nodes, no-more, node}
 use Rattle.fdt_format.specs.Events.{Event, begins, has, ends, propertyEvents, events}
 use Rattle.fdt_format.specs.Moves.{Kind, opens, adds, closes}
 use Rattle.fdt_format.specs.Reading.{eventAt}
-use Rattle.fdt_format.specs.Step.{stepAt}
+use Rattle.fdt_format.specs.Step.{past, stepAt}
 use Rattle.fdt_format.specs.Walk.{Walk, bad, good, more as goodMore, follow, steps, walk, walkStart}
 use Rattle.fdt_format.proofs.Steps.{by-test, Stepped, step-stepped}
 use Rattle.fdt_walk.specs.declared.Fault.{Fault}
@@ -96,15 +96,13 @@ module _ (b : List ℕ) (a : Areas) where
 
   by-step : (on : State → Walk) (on' : State → ReaderWalk) (s : State) → s .depth ≤ mostOpen
       → ((s' : State) → s' .depth ≤ mostOpen → Beside b (mostOpen - s' .depth) (on s') (on' s'))
-      → (x : Step) → Stepped b a s x → Beside b (mostOpen - s .depth) (follow x on) (capped (s .at) x on')
+      → (x : Step) → Stepped b a s x → Beside b (mostOpen - s .depth) (follow s x on) (capped s x on')
   unfolding Stepped capped Shallow
   by-step on on' s h ih (step.Entry t s') m =
       by-test (Beside b (mostOpen - s .depth) (goodMore t (on s'))) (ltb mostOpen (s' .depth)) _ _
       (λ d. beside-deep t (s .at) (m .1) h (ltb-true _ _ d) (on s'))
       λ d. beside-more t (m .1) h (ltb-false _ _ d) (ih s' (ltb-false _ _ d))
-  by-step on on' s h ih (step.Skip s') m =
-      let d : s' .depth ≡ s .depth = ap (λ (x : State). x .depth) (m .1) in
-      subst (λ (n : ℕ). Beside b (mostOpen - n) (on s') (on' s')) d (ih s' (omega (arith, d)))
+  by-step on on' s h ih step.Skip m = ih (past s) h
   by-step on on' s h ih step.Final m = both [] tt
   by-step on on' s h ih (step.Bad r) m = neither r _
 

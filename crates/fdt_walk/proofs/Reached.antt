@@ -14,9 +14,9 @@ use Rattle.fdt_format.specs.declared.Step.the-variants as step
 use Rattle.fdt_format.specs.declared.Unreadable.{Unreadable as Reason}
 use Rattle.fdt_format.specs.declared.Unreadable.the-variants.{Structure, NameOffset}
 use Rattle.fdt_format.specs.Moves.{Moved}
-use Rattle.fdt_format.specs.Step.{stepAt}
+use Rattle.fdt_format.specs.Step.{past, stepAt}
 use Rattle.fdt_format.specs.Walk.{walkStart}
-use Rattle.fdt_format.proofs.Steps.{by-test, Stepped, step-stepped}
+use Rattle.fdt_format.proofs.Steps.{by-test, Stepped, step-stepped, skip-moved}
 use Rattle.fdt_walk.specs.declared.Fault.{Fault}
 use Rattle.fdt_walk.specs.declared.Refusal.{Refusal}
 use Rattle.fdt_walk.specs.declared.Refusal.the-variants.{Unreadable}
@@ -42,13 +42,13 @@ module _ (b : List ℕ) (a : Areas) where
     by-reason s h reason e (inr k) q = here s h (name-offset (rw k at e)) (rw k at q)
 
     by-step : (on : State → ReaderWalk) (s : State) → Reached b a s → ((s' : State) → Reached b a s' → Moved a s s' → on s' ≡ stops f → Meets b a f)
-        → (x : Step) → stepAt b a s ≡ x → Stepped b a s x → capped (s .at) x on ≡ stops f → Meets b a f
+        → (x : Step) → stepAt b a s ≡ x → Stepped b a s x → capped s x on ≡ stops f → Meets b a f
     unfolding Stepped capped
     by-step on s h ih (step.Entry t s') e k =
         by-test (λ (w : ReaderWalk). w ≡ stops f → Meets b a f) (ltb mostOpen (s' .depth)) _ _
         (λ d. here s h (depth e (ltb-true _ _ d)))
         λ d q. ih s' (next h e (ltb-false _ _ d)) (k .0) (more-stops t (on s') f q)
-    by-step on s h ih (step.Skip s') e k = ih s' (skipped h e) (k .0)
+    by-step on s h ih step.Skip e k = ih (past s) (skipped h e) (skip-moved b a s k)
     by-step on s h ih step.Final e k = λ q. absurd (let z : _≡_ {A = ℕ} 0 1 = cc in omega arith)
     by-step on s h ih (step.Bad reason) e k = by-reason s h reason e k
 

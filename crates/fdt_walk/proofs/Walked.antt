@@ -15,7 +15,7 @@ use Rattle.fdt_format.specs.Reading.{eventAt}
 use Rattle.fdt_bytes.specs.BigEndian.{wordAt}
 use Rattle.fdt_format.specs.Step.{past, stepAt}
 use Rattle.fdt_format.specs.Tokens.{beginToken, endToken, skipToken}
-use Rattle.fdt_format.proofs.Steps.{event-begins, event-ends, Stepped, step-stepped, step-skip}
+use Rattle.fdt_format.proofs.Steps.{event-begins, event-ends, Stepped, step-stepped, step-skip, skip-moved}
 use Rattle.fdt_format.proofs.Walks.{first-step}
 use Rattle.fdt_read_token.specs.Trimmed.{trimmed}
 use Rattle.fdt_read_token.proofs.Trimmed.{step-trimmed}
@@ -30,18 +30,18 @@ use Rattle.fdt_walk.specs.Token.{Goes, Takes}
 
 -- what follows a token is the same for two walks that agree after it
 capped-same : (b : List ℕ) (a : Areas) (s : State) (x : Step) → Stepped b a s x → (g h : State → ReaderWalk) → ((s' : State) → Moved a s s' → g s' ≡ h s')
-    → capped (s .at) x g ≡ capped (s .at) x h
+    → capped s x g ≡ capped s x h
 unfolding Stepped capped
 capped-same b a s (step.Entry t s') m g h same = rw (same s' (m .0))
-capped-same b a s (step.Skip s') m g h same = same s' (m .0)
+capped-same b a s step.Skip m g h same = same (past s) (skip-moved b a s m)
 capped-same b a s step.Final m g h same = refl
 capped-same b a s (step.Bad reason) m g h same = refl
 
 -- a walk is its first token and the walk after it
-pub reader-step : (b : List ℕ) (a : Areas) (s : State) → readerWalk b a s ≡ capped (s .at) (stepAt b a s) (readerWalk b a)
+pub reader-step : (b : List ℕ) (a : Areas) (s : State) → readerWalk b a s ≡ capped s (stepAt b a s) (readerWalk b a)
 unfolding readerWalk readerSteps
 reader-step b a s =
-    first-step a (λ (s : State). capped (s .at) (stepAt b a s)) (λ s. capped-same b a s (stepAt b a s) (step-stepped b a s)) (readerSteps b a) (λ _ _. refl) s
+    first-step a (λ (s : State). capped s (stepAt b a s)) (λ s. capped-same b a s (stepAt b a s) (step-stepped b a s)) (readerSteps b a) (λ _ _. refl) s
 
 -- a word 4 at any state describes nothing to a reader either
 pub reader-skip : (b : List ℕ) (a : Areas) (s : State) → s .at + 4 ≤ a .«structure_end» → wordAt b (s .at) ≡ skipToken → readerWalk b a s ≡ readerWalk b a (past s)
@@ -55,7 +55,7 @@ kind-past (opens name e d r) = opens name e d r
 kind-past (adds p e d r r') = adds p e d r r'
 kind-past (closes e d r) = closes e d r
 
--- a token after a word that is skipped
+-- a token after a word 4
 goes-past : (b : List ℕ) (a : Areas) (s : State) (r : Token) → Goes b a (past s) r → Goes b a s r
 unfolding Goes
 goes-past b a s (token.Entry t s') n = record {
@@ -65,12 +65,6 @@ goes-past b a s (token.Entry t s') n = record {
 }
 goes-past b a s token.Final n = n
 goes-past b a s (token.Refused fault) n = tt
-
--- a word is skipped at a state: the place moves on, and the token that is taken there is the one that is taken after it
-pub record Skips (b : List ℕ) (a : Areas) (s s' : State) : Type 0 where
-  pub moved : Moved a s s'
-  pub depth : s' .depth ≡ s .depth
-  pub takes : (r : Token) → Takes b a s' r → Takes b a s r
 
 known : (b : List ℕ) (a : Areas) (s : State) {x y : Step} → x ≡ stepAt b a s → x ≡ y → (stepAt b a s ≡ y) × Stepped b a s y
 known b a s q e = let r = sym q ∙ e in (r, subst (Stepped b a s) r (step-stepped b a s))
@@ -99,19 +93,12 @@ module _ {b : List ℕ} {a : Areas} {s : State} {x : Step} (q : x ≡ stepAt b a
           goes = record { moved = k .1 .0; shallow = few; kind = k .1 .1 };
         }
 
-  pub skips : {s' : State} → x ≡ step.Skip s' → Skips b a s s'
+  -- the token after a word 4 is the one that is taken
+  pub takes-skip : x ≡ step.Skip → Moved a s (past s) × ((r : Token) → Takes b a (past s) r → Takes b a s r)
   unfolding capped Stepped
-  skips {s'} e =
+  takes-skip e =
       let k = known b a s q e in
-      record {
-        moved = k .1 .0;
-        depth = ap (λ (y : State). y .depth) (k .1 .1);
-        takes =
-            λ r h. record {
-              tells = reader-step b a s ∙ rw (k .0) (h .tells);
-              goes = goes-past b a s r (subst (λ (y : State). Goes b a y r) (k .1 .1) (h .goes));
-            };
-      }
+      (skip-moved b a s (k .1), λ r h. record { tells = reader-step b a s ∙ rw (k .0) (h .tells); goes = goes-past b a s r (h .goes) })
 
 -- ---- the kind of an entry, by its token
 

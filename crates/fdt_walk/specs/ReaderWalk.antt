@@ -9,7 +9,7 @@ use Rattle.fdt_format.specs.declared.State.{State}
 use Rattle.fdt_format.specs.declared.Step.{Step}
 use Rattle.fdt_format.specs.declared.Step.the-variants as step
 use Rattle.fdt_format.specs.declared.Unreadable.the-variants.{Structure}
-use Rattle.fdt_format.specs.Step.{stepAt}
+use Rattle.fdt_format.specs.Step.{past, stepAt}
 use Rattle.fdt_walk.specs.declared.Fault.{Fault}
 use Rattle.fdt_walk.specs.declared.Refusal.{Refusal}
 use Rattle.fdt_walk.specs.declared.Refusal.the-variants.{Unreadable, Depth}
@@ -29,17 +29,17 @@ more t (reads ts) = reads (t ∷ ts)
 abbrev pub refusedAt : ℕ → Refusal → ReaderWalk
 refusedAt place r = stops (record { refusal = r; place = place })
 
--- the token at a place, and the walk after it. The reading's own refusals come first: structure, then name offset. Depth is the last.
-unfoldable pub capped : ℕ → Step → (State → ReaderWalk) → ReaderWalk
-capped place (step.Entry t s) on = cond (ltb mostOpen (s .depth)) (refusedAt place Depth) (more t (on s))
-capped place (step.Skip s) on = on s
-capped place step.Final on = reads []
-capped place (step.Bad reason) on = refusedAt place (Unreadable reason)
+-- the token at a state, and the walk after it; a word 4 is skipped. The reading's own refusals come first: structure, then name offset. Depth is the last.
+unfoldable pub capped : State → Step → (State → ReaderWalk) → ReaderWalk
+capped s (step.Entry t s') on = cond (ltb mostOpen (s' .depth)) (refusedAt (s .at) Depth) (more t (on s'))
+capped s step.Skip on = on (past s)
+capped s step.Final on = reads []
+capped s (step.Bad reason) on = refusedAt (s .at) (Unreadable reason)
 
 -- at most k tokens
 unfoldable pub readerSteps : List ℕ → Areas → ℕ → State → ReaderWalk
 readerSteps b a zero s = refusedAt (s .at) (Unreadable Structure)
-readerSteps b a (suc k) s = capped (s .at) (stepAt b a s) (readerSteps b a k)
+readerSteps b a (suc k) s = capped s (stepAt b a s) (readerSteps b a k)
 
 -- all tokens from a state on: each takes at least one byte, so this bound refuses nothing (`reader-step`)
 unfoldable pub readerWalk : List ℕ → Areas → State → ReaderWalk

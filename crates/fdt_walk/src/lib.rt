@@ -59,7 +59,7 @@ pub fn token_at(blob: &[u8], a: Areas, from: State) -> Token
         let place = s.at;
         let read = step_at(blob, a, s);
         match read {
-            Step::Skip(next) => s = next,
+            Step::Skip => s.at += 4,
             Step::Final => return Token::Final,
             Step::Bad(reason) => {
                 return Token::Refused(Fault {

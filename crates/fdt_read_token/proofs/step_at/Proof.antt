@@ -37,9 +37,8 @@ returns-5 c =
 returns-6 : tie.Need-returns-6
 unfolding stepAt
 returns-6 c =
-    let skip = c .before in
-    let word = skip .before .before .before .before in
-    rw (le-ltb _ _ (word .before .if1 .left), ← word .read-u32 .ensures, skip .if6 .taken) (c .skip-at .ensures)
+    let word = c .before .before .before .before in
+    rw (le-ltb _ _ (word .before .if1 .left), ← word .read-u32 .ensures, c .if6 .taken)
 
 returns-7 : tie.Need-returns-7
 unfolding stepAt
@@ -75,7 +74,6 @@ step-at-spec =
     (λ c κs. search needs)
     returns-4
     returns-5
-    (λ c κs. search needs)
     returns-6
     (λ c κs. search needs)
     returns-7
