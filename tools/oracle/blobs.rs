@@ -101,11 +101,12 @@ fn ninety_two() -> Vec<u8> {
     [words_of(&words), b"reg\0".to_vec()].concat()
 }
 
-// The bytes of a structure, with the byte that pads it.
+// The bytes of a structure, with the byte that pads it and how many words 4 come before each token.
 #[derive(Clone)]
 struct Body {
     bytes: Vec<u8>,
     pad: u8,
+    nops: usize,
 }
 
 impl Body {
@@ -114,12 +115,22 @@ impl Body {
     }
 
     fn padded(pad: u8) -> Body {
-        Body { bytes: Vec::new(), pad }
+        Body { bytes: Vec::new(), pad, nops: 0 }
+    }
+
+    // From here on, so many words 4 come before each token.
+    fn nops(mut self, nops: usize) -> Body {
+        self.nops = nops;
+        self
     }
 
     fn word(mut self, word: u32) -> Body {
         self.bytes.extend(word.to_be_bytes());
         self
+    }
+
+    fn token(self, token: u32) -> Body {
+        (0..self.nops).fold(self, |body, _| body.word(4)).word(token)
     }
 
     // Adds bytes and their padding.
@@ -130,19 +141,19 @@ impl Body {
     }
 
     fn begin(self, name: &[u8]) -> Body {
-        self.word(1).raw(&[name, &[0]].concat())
+        self.token(1).raw(&[name, &[0]].concat())
     }
 
     fn property(self, offset: u32, value: &[u8]) -> Body {
-        self.word(3).word(value.len() as u32).word(offset).raw(value)
+        self.token(3).word(value.len() as u32).word(offset).raw(value)
     }
 
     fn end(self) -> Body {
-        self.word(2)
+        self.token(2)
     }
 
     fn last(self) -> Body {
-        self.word(9)
+        self.token(9)
     }
 }
 
@@ -187,9 +198,14 @@ impl Parts {
     }
 }
 
-// Nodes inside each other, so many, around some tokens.
+// So many nodes that have begun, each inside the one before.
+fn nested(depth: usize, body: Body) -> Body {
+    (0..depth).fold(body, |body, _| body.begin(b""))
+}
+
+// Nodes inside each other, so many, around some tokens, with as many words 4 before each as there.
 fn chain(depth: usize, inner: Body) -> Body {
-    let begun = (0..depth).fold(Body::new(), |body, _| body.begin(b""));
+    let begun = nested(depth, Body::new().nops(inner.nops));
     (0..depth).fold(begun.raw(&inner.bytes), |body, _| body.end())
 }
 
@@ -205,9 +221,9 @@ fn plain(body: Body) -> Vec<u8> {
     parts(body, b"reg\0a\0").blob()
 }
 
-// Tokens up to some byte.
-fn front(mut body: Body, length: usize) -> Body {
-    body.bytes.truncate(length);
+// Tokens without their last bytes.
+fn less(mut body: Body, bytes: usize) -> Body {
+    body.bytes.truncate(body.bytes.len() - bytes);
     body
 }
 
@@ -229,8 +245,7 @@ fn of_the_documents(l: &mut Lines) {
     l.case("a bad header and endless reservations", &with(&endless, 20, 16), 12);
     l.case("endless reservations and a bad structure", &with(&endless, 84, 4), 12);
     l.case("a value outside and a bad name offset", &with(&with(&b, 68, 100), 72, 100), 12);
-    let deep = (0..64).fold(Body::new(), |body, _| body.begin(b""));
-    l.case("a name outside at depth 64", &plain(deep.word(1).raw(b"abcd")), 512);
+    l.case("a name outside at depth 64", &plain(nested(64, Body::new()).word(1).raw(b"abcd")), 512);
     let late = begun().begin(b"a").end().property(77, b"").end().last();
     l.case("a property after an end, and a bad name offset", &plain(late), 20);
     l.case("a bad name offset and disorder later", &plain(begun().property(77, b"").last()), 20);
@@ -309,21 +324,16 @@ fn endless(l: &mut Lines) {
     l.case("offset at the end", &with(&with(&longer, RESERVATIONS, 64), TOTAL, 64), 8);
 }
 
-// Tokens that may not come where they stand.
-fn disorder(l: &mut Lines) {
-    let (b, open) = (Body::new, begun);
+// Tokens that may not come where they stand, and words that are none.
+fn disorder(l: &mut Lines, b: impl Fn() -> Body, after: &str) {
+    let open = || b().begin(b"");
     for (heading, body) in [
-        ("no word at all", b()),
-        ("no final word", open().end()),
-        ("no final word inside a node", open()),
-        ("a cut word", front(open().end().last(), 15)),
-        ("a cut word inside a node", front(open().end(), 9)),
-        ("token 4 first", b().word(4).last()),
-        ("token 4 inside", open().word(4).end().last()),
-        ("token 4 before the final word", open().end().word(4).last()),
-        ("token 0", open().word(0).end().last()),
-        ("token 5", open().end().word(5).last()),
-        ("token 0x01000000", b().word(1 << 24).last()),
+        ("a cut word", less(open().end().last(), 1)),
+        ("a cut word inside a node", less(open().end(), 3)),
+        ("token 0", open().token(0).end().last()),
+        ("token 5", open().end().token(5).last()),
+        ("token 0x01000000", b().token(1 << 24).last()),
+        ("token 0x04000000", open().token(4 << 24).end().last()),
         ("an end alone", b().end().last()),
         ("an end too many", open().end().end().last()),
         ("a final word inside", open().last()),
@@ -334,51 +344,127 @@ fn disorder(l: &mut Lines) {
         ("a property first with no name", b().property(9, b"").last()),
         ("a property after a top node", open().end().property(0, b"").last()),
         ("a property after a child", open().begin(b"a").end().property(0, b"x").end().last()),
-        ("such a property with its value outside", open().begin(b"a").end().word(3).word(9).word(0)),
+        ("such a property with its value outside", open().begin(b"a").end().token(3).word(9).word(0)),
     ] {
-        l.case(heading, &plain(body), 16);
+        l.case(&format!("{heading}{after}"), &plain(body), 16);
     }
 }
 
 // Tokens that do not end inside the structure.
-fn outside(l: &mut Lines) {
-    let (b, open) = (Body::new, begun);
+fn outside(l: &mut Lines, b: impl Fn() -> Body, after: &str) {
+    let open = || b().begin(b"");
     let filled = || open().property(0, b"abcde");
     for (heading, body) in [
-        ("a property of one word", open().word(3)),
-        ("a property of two words", open().word(3).word(0)),
-        ("a name outside", b().word(1).raw(b"abcd")),
-        ("a begin alone", b().word(1)),
-        ("a name's padding outside", front(open(), 5)),
-        ("a name's padding outside", front(b().begin(b"ab"), 7)),
-        ("a name's padding outside at depth 64", front(chain(65, b()), 4 + 8 * 64 + 3)),
-        ("a value outside", open().word(3).word(1).word(0)),
-        ("a value outside by one byte", open().word(3).word(5).word(0).word(7)),
-        ("a value of 4 GB", open().word(3).word(0xffff_ffff).word(0).end().last()),
-        ("a value that goes round", open().word(3).word(0xffff_fff0).word(0).end().last()),
-        ("a value that pads to 4 GB", open().word(3).word(0xffff_fffd).word(0).end().last()),
-        ("a value's padding outside", front(filled(), 8 + 12 + 5)),
-        ("a value's padding outside", front(filled(), 8 + 12 + 7)),
-        ("a value up to the end", front(filled(), 8 + 12 + 8)),
+        ("a property of one word", open().token(3)),
+        ("a property of two words", open().token(3).word(0)),
+        ("a name outside", b().token(1).raw(b"abcd")),
+        ("a begin alone", b().token(1)),
+        ("a name's padding outside", less(open(), 3)),
+        ("a name's padding outside", less(b().begin(b"ab"), 1)),
+        ("a name's padding outside at depth 64", less(nested(65, b()), 1)),
+        ("a value outside", open().token(3).word(1).word(0)),
+        ("a value outside by one byte", open().token(3).word(5).word(0).word(7)),
+        ("a value of 4 GB", open().token(3).word(0xffff_ffff).word(0).end().last()),
+        ("a value that goes round", open().token(3).word(0xffff_fff0).word(0).end().last()),
+        ("a value that pads to 4 GB", open().token(3).word(0xffff_fffd).word(0).end().last()),
+        ("a value's padding outside", less(filled(), 3)),
+        ("a value's padding outside", less(filled(), 1)),
+        ("a value up to the end", filled()),
     ] {
-        l.case(heading, &plain(body), 16);
-    }
-    for size in [1, 5, 8, 9, 11, 19, 21, 25, 26, 27, 31, 33, 35, 36] {
-        l.case("a structure of another size", &with(&ninety_two(), STRUCTURE_SIZE, size), 16);
+        l.case(&format!("{heading}{after}"), &plain(body), 16);
     }
 }
 
 // Name offsets that meet no 0 inside the strings.
-fn no_names(l: &mut Lines) {
-    let b = ninety_two();
-    for offset in [3, 4, 5, 88, 92, 0x7fff_ffff, 0xffff_ffa7, 0xffff_ffa8, 0xffff_ffff] {
-        l.case("another name offset", &with(&b, 72, offset), 12);
+fn no_names(l: &mut Lines, b: impl Fn() -> Body, after: &str) {
+    let open = b().begin(b"").token(3).word(4);
+    let at = 56 + open.bytes.len();
+    let blob = parts(open.word(0).word(1).end().last(), b"reg\0").blob();
+    let start = word(&blob, STRINGS);
+    for offset in [3, 4, 5, start, start + 4, 0x7fff_ffff, !start, start.wrapping_neg(), 0xffff_ffff] {
+        l.case(&format!("another name offset{after}"), &with(&blob, at, offset), 12);
     }
-    l.case("strings without a 0", &with(&b, STRINGS_SIZE, 3), 12);
-    l.case("no strings", &with(&b, STRINGS_SIZE, 0), 12);
-    let mut first = parts(begun().property(0, b"").property(2, b"").end().last(), b"a\0bc");
+    l.case(&format!("strings without a 0{after}"), &with(&blob, STRINGS_SIZE, 3), 12);
+    l.case(&format!("no strings{after}"), &with(&blob, STRINGS_SIZE, 0), 12);
+    let mut first = parts(b().begin(b"").property(0, b"").property(2, b"").end().last(), b"a\0bc");
     first.order = [2, 0, 1];
-    l.case("strings in front, whose last name goes on", &first.blob(), 16);
+    l.case(&format!("strings in front, whose last name goes on{after}"), &first.blob(), 16);
+}
+
+// Structures that have a fault.
+fn faults(l: &mut Lines) {
+    let (b, open) = (Body::new, begun);
+    l.case("no word at all", &plain(b()), 16);
+    l.case("no final word", &plain(open().end()), 16);
+    l.case("no final word inside a node", &plain(open()), 16);
+    disorder(l, b, "");
+    outside(l, b, "");
+    for size in [1, 5, 8, 9, 11, 19, 21, 25, 26, 27, 31, 33, 35, 36] {
+        l.case("a structure of another size", &with(&ninety_two(), STRUCTURE_SIZE, size), 16);
+    }
+    no_names(l, b, "");
+}
+
+// Structures whose fault stands after a word 4, or is a word 4 that is cut.
+fn faults_after_4(l: &mut Lines) {
+    let (b, open) = (|| Body::new().nops(1), begun);
+    for (heading, body) in [
+        ("a word 4 alone", Body::new().word(4)),
+        ("three words 4 alone", Body::new().word(4).word(4).word(4)),
+        ("a word 4 last", open().end().word(4)),
+        ("two words 4 last inside a node", open().word(4).word(4)),
+        ("a word 4 after the final one", open().end().last().word(4)),
+    ] {
+        l.case(heading, &plain(body), 16);
+    }
+    for body in [open().end().word(4), open().word(4).word(4)] {
+        let blob = plain(body);
+        l.case("a cut word 4", &with(&blob, STRUCTURE_SIZE, word(&blob, STRUCTURE_SIZE) - 1), 16);
+    }
+    let after = ", after a word 4";
+    disorder(l, b, after);
+    outside(l, b, after);
+    no_names(l, b, after);
+    l.case("depth 65, with words 4", &plain(chain(65, b()).last()), 520);
+    l.case("a word 4 and then depth 65", &plain(chain(64, Body::new().word(4).begin(b"").end()).last()), 520);
+    l.case("too deep and disorder later, with words 4", &plain(chain(65, b()).end().last()), 520);
+    l.case("too deep and a short list, with words 4", &plain(chain(65, b()).last()), 255);
+    l.case("a name outside at depth 64, after a word 4", &plain(nested(64, b()).token(1).raw(b"abcd")), 512);
+    let late = |offset| b().begin(b"").property(offset, b"").last();
+    l.case("a bad name offset and disorder later, after a word 4", &plain(late(77)), 20);
+    l.case("a bad name offset and a short list, after a word 4", &plain(late(77)), 0);
+    l.case("disorder and a short list, after a word 4", &plain(late(0)), 4);
+}
+
+// Words 4 that are skipped, and others that belong to a name, a value or a property's head.
+fn words_4(l: &mut Lines) {
+    let (b, open, nop) = (Body::new, begun, |body: Body| body.word(4));
+    for (heading, body) in [
+        ("a word 4 before the first node", nop(b()).begin(b"").end().last()),
+        ("a word 4 before a property", nop(open()).property(0, b"x").end().last()),
+        ("a word 4 between properties", nop(open().property(0, b"x")).property(4, b"").end().last()),
+        ("a word 4 before a child", nop(open()).begin(b"a").end().end().last()),
+        ("a word 4 between children", nop(open().begin(b"a").end()).begin(b"b").end().end().last()),
+        ("a word 4 before an end", nop(open()).end().last()),
+        ("a word 4 before the end after a child", nop(open().begin(b"a").end()).end().last()),
+        ("a word 4 before another top node", nop(open().end()).begin(b"").end().last()),
+        ("a word 4 before the final word", nop(open().end()).last()),
+        ("a word 4 before the final word, and no node", nop(b()).last()),
+        ("two words 4", nop(nop(open())).property(0, b"x").end().last()),
+        ("a word 4 as padding of a name", b().word(1).word(4).end().last()),
+        ("a word 4 as a name", open().begin(b"\x04").end().end().last()),
+        ("words 4 as a value", open().property(0, b"\0\0\0\x04\0\0\0\x04").end().last()),
+        ("words 4 as a property's head", open().property(4, b"1234").end().last()),
+    ] {
+        l.case(heading, &plain(body), 24);
+    }
+    for count in [1, 2, 3, 40] {
+        let tree = b().nops(count).begin(b"").property(0, b"x").property(4, b"").begin(b"a").property(0, b"").end();
+        let tops = tree.begin(b"").end().end().begin(b"").end();
+        l.case(&format!("words 4 before every token: {count}"), &plain(tops.last()), 48);
+    }
+    l.case("depth 64, with words 4", &plain(chain(64, b().nops(1)).last()), 512);
+    l.case("a short list, with words 4", &plain(b().nops(9).begin(b"").end().last()), 7);
 }
 
 // Blobs that are read, at the corners of the rules.
@@ -425,7 +511,7 @@ fn largest(l: &mut Lines) {
 // A fixed list: what the documents name, every cause and every corner.
 pub fn examples() -> String {
     let mut l = Lines::new();
-    for some in [of_the_documents, headers, endless, disorder, outside, no_names, accepted, largest] {
+    for some in [of_the_documents, headers, endless, faults, accepted, words_4, faults_after_4, largest] {
         some(&mut l);
     }
     l.text
@@ -441,7 +527,7 @@ fn small() -> Vec<Vec<u8>> {
     let names = begun().property(0, b"").property(1, b"x").begin(b"b").property(6, b"yes\0").property(11, b"12345");
     let mut tails = parts(names.end().end().last(), b"#size-cells\0");
     tails.order = [2, 0, 1];
-    let padded = Body::padded(0xa5).begin(b"one").property(0, b"x").end().begin(b"").begin(b"ab");
+    let padded = Body::padded(0xa5).nops(1).begin(b"one").property(0, b"x").end().begin(b"").begin(b"ab");
     let mut tops = parts(padded.end().end().last(), b"p\0");
     (tops.order, tops.gaps, tops.reserved) = ([1, 2, 0], [4, 2, 1, 3], vec![0, 1]);
     let values = (1..6).fold(begun(), |body, n| body.property(2, &b"\x01\x02\x03\x04\x09"[..n]));
@@ -509,10 +595,7 @@ const SET: [u32; 7] = [0, 1, 2, 3, 4, 9, 0x6100_0000];
 // A structure of so many words of the set, by its number, after some words and in front of others.
 fn short(front: &[u32], length: u32, number: usize, after: &[u32]) -> Body {
     let inner = (0..length).rev().map(|k| SET[number / 7usize.pow(k) % 7]);
-    Body {
-        bytes: words_of(&front.iter().copied().chain(inner).chain(after.iter().copied()).collect::<Vec<_>>()),
-        pad: 0,
-    }
+    Body::new().raw(&words_of(&front.iter().copied().chain(inner).chain(after.iter().copied()).collect::<Vec<_>>()))
 }
 
 // Every structure of up to six words of the set, alone and then inside a node, in lists of so many.
@@ -553,8 +636,11 @@ fn offset(r: &mut Rng, strings: &[u8]) -> Option<u32> {
     Some(r.below(last as u64 + 1) as u32)
 }
 
-// Bytes of a value: many are such as tokens have.
+// Bytes of a value: many are such as tokens have, and some are words 4.
 fn value(r: &mut Rng) -> Vec<u8> {
+    if r.once_in(20) {
+        return words_of(&vec![4; 1 + r.below(3) as usize]);
+    }
     let length = if r.once_in(30) { r.below(80) } else { r.below(9) };
     (0..length).map(|_| if r.once_in(8) { r.next() as u8 } else { r.of(b"\0\0\0\x01\x02\x03\x09ab") }).collect()
 }
@@ -565,20 +651,26 @@ fn node_name(r: &mut Rng) -> Vec<u8> {
     (0..length).map(|_| if r.once_in(8) { 1 + r.below(255) as u8 } else { r.of(b"ab@1") }).collect()
 }
 
-// A node that lies so deep, with its properties and children.
-fn node(r: &mut Rng, body: Body, depth: u64, strings: &[u8]) -> Body {
-    let mut body = body.begin(&node_name(r));
+// How many words 4 come before the next token: at most so many, and none where that is 0.
+fn nops(r: &mut Rng, body: Body, most: u64) -> Body {
+    let count = if r.once_in(2) { 0 } else { r.below(most + 1) };
+    body.nops(count as usize)
+}
+
+// A node that lies so deep, with its properties and children, and at most so many words 4 before each token.
+fn node(r: &mut Rng, body: Body, depth: u64, strings: &[u8], most: u64) -> Body {
+    let mut body = nops(r, body, most).begin(&node_name(r));
     for _ in 0..r.below(4) {
         if let Some(offset) = offset(r, strings) {
-            body = body.property(offset, &value(r))
+            body = nops(r, body, most).property(offset, &value(r))
         }
     }
     for _ in 0..r.below(3) {
         if depth < 1 + r.below(5) {
-            body = node(r, body, depth + 1, strings)
+            body = node(r, body, depth + 1, strings, most)
         }
     }
-    body.end()
+    nops(r, body, most).end()
 }
 
 // Reservations, of which one number may be 0.
@@ -600,14 +692,15 @@ fn laid(r: &mut Rng, mut p: Parts) -> Parts {
     p
 }
 
-// The parts of a good blob.
+// The parts of a good blob: half of them have words 4.
 fn good(r: &mut Rng) -> Parts {
-    let all = strings(r);
+    let (all, most) = (strings(r), r.of(&[0, 0, 0, 1, 2, 9]));
     let mut body = Body::padded(r.of(&[0, 0, 0, 0xff, 1]));
     for _ in 0..r.of(&[1, 1, 1, 1, 0, 2, 3]) {
-        body = node(r, body, 1, &all)
+        body = node(r, body, 1, &all, most)
     }
-    laid(r, parts(body.last(), &all))
+    let body = nops(r, body, most).last();
+    laid(r, parts(body, &all))
 }
 
 // A number near another, or one at a corner, or any.
@@ -754,18 +847,19 @@ fn read_some(r: &mut Rng, l: &mut Lines, parts: Parts, count: u64) {
     }
 }
 
-// Nodes inside each other, about as deep as they may be, with some tokens at the bottom.
+// Nodes inside each other, about as deep as they may be, with some tokens at the bottom and some words 4.
 fn deep(r: &mut Rng, l: &mut Lines) {
+    let b = Body::new().nops(r.of(&[0, 0, 0, 1, 2]));
     let inner = r.of(&[
-        Body::new(),
-        Body::new().property(0, b"x"),
-        Body::new().begin(b"").end(),
-        Body::new().begin(b"").end().begin(b"a").end(),
-        Body::new().property(3, b"").begin(b"").begin(b"").end().end(),
-        Body::new().begin(b"").end().property(0, b""),
-        Body::new().property(4, b"").begin(b""),
-        Body::new().word(1).raw(b"abcdefgh"),
-        Body::new().last(),
+        b.clone(),
+        b.clone().property(0, b"x"),
+        b.clone().begin(b"").end(),
+        b.clone().begin(b"").end().begin(b"a").end(),
+        b.clone().property(3, b"").begin(b"").begin(b"").end().end(),
+        b.clone().begin(b"").end().property(0, b""),
+        b.clone().property(4, b"").begin(b""),
+        b.clone().token(1).raw(b"abcdefgh"),
+        b.last(),
     ]);
     let body = chain(r.of(&[60, 62, 63, 64, 65, 66]), inner).last();
     let p = laid(r, parts(body, b"reg\0"));
@@ -780,6 +874,12 @@ fn long(r: &mut Rng, l: &mut Lines) {
     let body = begun().property(0, &l.array[76..76 + length]).begin(b"a").end().end().last();
     let p = parts(body, b"reg\0");
     read_some(r, l, p, 20);
+}
+
+// Many words 4 in a row, up to what the array holds.
+fn skipped(r: &mut Rng, l: &mut Lines) {
+    let body = begun().nops(r.of(&[16_000, 4_000, 500])).property(0, b"x").nops(1).end().last();
+    read_some(r, l, parts(body, b"reg\0"), 20);
 }
 
 // Many nodes, up to what the array holds.
@@ -797,6 +897,7 @@ pub fn random(seed: u64, bytes: usize) -> String {
     if bytes >= 500_000 {
         wide(&mut r, &mut l, 5_300);
         long(&mut r, &mut l);
+        skipped(&mut r, &mut l);
     }
     while l.text.len() < bytes.min(LONGEST - 20_000) {
         match r.below(40) {

@@ -23,8 +23,9 @@ const NUMBERS: usize = 65_536;
 // Every number of the list before a call.
 const MARK: u32 = 0xeeee_eeee;
 
-// How often each number was given: in all, and for each cause and at each corner.
-type Counts = BTreeMap<(u32, &'static str), u64>;
+// How often each number was given, apart where words 4 stand before the fault: in all, and for each cause and at each
+// corner.
+type Counts = BTreeMap<(u32, bool, &'static str), u64>;
 
 // What test_reader holds.
 struct State {
@@ -44,7 +45,7 @@ impl State {
         self.list = vec![MARK; room.min(NUMBERS as u64) as usize];
         let found = reading::read(&self.array[..self.lent], &mut self.list);
         for cause in [""].iter().chain(&found.causes) {
-            *self.counts.entry((found.number, cause)).or_default() += 1;
+            *self.counts.entry((found.number, found.after_4, cause)).or_default() += 1;
         }
         let [boot, reservations, entries] = found.values;
         let sum = check(self.list.iter().flat_map(|n| n.to_be_bytes()));
@@ -72,13 +73,19 @@ impl State {
     }
 }
 
+// A line of the file of counts.
+fn counted(&(number, after_4, cause): &(u32, bool, &str), n: u64) -> String {
+    let apart = if after_4 { " after 4" } else { "" };
+    format!("{number}{apart}\t{cause}\t{n}\n")
+}
+
 fn expect(counts_file: Option<&String>) -> Result<(), String> {
     let (mut text, mut out, mut state) = (String::new(), String::new(), State::new());
     io::stdin().read_to_string(&mut text).map_err(|e| format!("the list cannot be read: {e}"))?;
     for (k, line) in text.lines().enumerate() {
         state.line(line, &mut out).map_err(|e| format!("line {}: {line:.200}: {e}", k + 1))?;
     }
-    let told: String = state.counts.iter().map(|((number, cause), n)| format!("{number}\t{cause}\t{n}\n")).collect();
+    let told: String = state.counts.iter().map(|(key, n)| counted(key, *n)).collect();
     if let Some(file) = counts_file {
         std::fs::write(file, told).map_err(|e| format!("{file}: {e}"))?;
     }

@@ -1,5 +1,6 @@
 // A model of the reader, written from documents 01 and 02 alone: a node reads its properties and then its children,
-// and each child is a node again. Words have 32 bits and sums of them are formed in 64, so none wraps.
+// and each child is a node again. Each leads on to the next token, past the words 4 that stand before it. Words have 32
+// bits and sums of them are formed in 64, so none wraps.
 use std::collections::BTreeSet;
 
 // The deepest that a node may lie.
@@ -9,20 +10,24 @@ const WRAPS: u64 = 1 << 32;
 const BEGIN: u64 = 1;
 const END: u64 = 2;
 const PROPERTY: u64 = 3;
+const NO_OPERATION: u64 = 4;
 const FINAL: u64 = 9;
 
-// What the reader must answer: number, values and place of the fault; and the causes and corners that are counted.
+// What the reader must answer: number, values and place of the fault; and what is counted: whether words 4 stand before
+// the fault, the causes and the corners.
 pub struct Outcome {
     pub number: u32,
     pub values: [u64; 3],
     pub place: u64,
+    pub after_4: bool,
     pub causes: Vec<&'static str>,
 }
 
-// A refusal: its number, the place of the fault, and its causes.
+// A refusal: its number, the place of the fault, whether words 4 stand before it, and its causes.
 struct Fault {
     number: u32,
     place: u64,
+    after_4: bool,
     causes: Vec<&'static str>,
 }
 
@@ -31,7 +36,7 @@ type Tested<T> = Result<T, Fault>;
 // A refusal for reasons of which there is at least one. Each is counted where it alone counts.
 fn refused<T>(number: u32, place: u64, reasons: &[&'static str], corners: &[&'static str]) -> Tested<T> {
     let cause = if let [one] = reasons { one } else { "several" };
-    Err(Fault { number, place, causes: [&[cause], corners].concat() })
+    Err(Fault { number, place, after_4: false, causes: [&[cause], corners].concat() })
 }
 
 // The texts whose conditions hold.
@@ -149,13 +154,15 @@ struct Walk<'a> {
     header: Header,
     // whether name offsets and the depth are judged
     judged: bool,
+    // where the last words 4 that it skipped end
+    skipped: Option<u64>,
     entries: Vec<[u64; 4]>,
     corners: BTreeSet<&'static str>,
 }
 
 impl Walk<'_> {
     fn new(blob: &[u8], header: Header, judged: bool) -> Walk<'_> {
-        Walk { blob, header, judged, entries: Vec::new(), corners: BTreeSet::new() }
+        Walk { blob, header, judged, skipped: None, entries: Vec::new(), corners: BTreeSet::new() }
     }
 
     fn end(&self) -> u64 {
@@ -178,15 +185,43 @@ impl Walk<'_> {
         self.note(self.blob[from as usize..to as usize].iter().any(|&b| b != 0), "padding-not-0");
     }
 
+    // Notes a value that has a word 4.
+    fn note_value(&mut self, from: u64, to: u64) {
+        let mut words = self.blob[from as usize..to as usize].chunks_exact(4);
+        self.note(words.any(|word| word == [0, 0, 0, 4]), "4-in-a-value");
+    }
+
+    // Whether words 4 stand just before a token.
+    fn after_4(&self, at: u64) -> bool {
+        self.skipped == Some(at)
+    }
+
+    // The place of the next token: here, or after the words 4 that stand here.
+    fn next(&mut self, at: u64) -> u64 {
+        if self.word(at) != Some(NO_OPERATION) {
+            return at;
+        }
+        self.note(self.after_4(at), "several-4s");
+        self.skipped = Some(at + 4);
+        self.next(at + 4)
+    }
+
+    // Reports a token, and notes what it is where words 4 stand before it.
+    fn report(&mut self, entry: [u64; 4], corner: &'static str) {
+        self.note(self.after_4(entry[1]), corner);
+        self.entries.push(entry);
+    }
+
     // Reads any number of nodes, and then the final word, which must end the structure.
     fn whole(&mut self) -> Tested<()> {
-        let (mut at, mut tops) = (self.header.structure.start, 0);
+        let (mut at, mut tops) = (self.next(self.header.structure.start), 0);
         while self.word(at) == Some(BEGIN) {
             at = self.node(at, 1)?;
             tops += 1;
         }
         self.note(tops == 0, "no-node");
         self.note(tops > 1, "several-tops");
+        self.note(self.after_4(at), "4-before-final");
         match self.word(at) {
             Some(FINAL) if at + 4 == self.end() => Ok(()),
             Some(FINAL) => refused(23, at, &["final-early"], &[]),
@@ -196,7 +231,7 @@ impl Walk<'_> {
         }
     }
 
-    // Reads a node that would lie so deep, with its properties and its children: where it ends.
+    // Reads a node that would lie so deep, with its properties and its children: the next token.
     fn node(&mut self, at: u64, depth: u64) -> Tested<u64> {
         let mut at = self.begin(at, depth)?;
         while self.word(at) == Some(PROPERTY) {
@@ -207,8 +242,8 @@ impl Walk<'_> {
         }
         match self.word(at) {
             Some(END) => {
-                self.entries.push([END, at, 0, 0]);
-                Ok(at + 4)
+                self.report([END, at, 0, 0], "4-before-end");
+                Ok(self.next(at + 4))
             }
             Some(PROPERTY) => self.property(at, &["property-after-child"]),
             Some(FINAL) if at + 4 == self.end() => refused(23, at, &["final-inside-node"], &[]),
@@ -217,19 +252,27 @@ impl Walk<'_> {
         }
     }
 
-    // The fault of a place where none of the four tokens stands.
+    // The fault of a place where no token stands.
     fn no_token<T>(&self, at: u64) -> Tested<T> {
-        let reason = match self.word(at) {
-            None if at == self.end() => "no-word",
-            None => "cut-word",
-            Some(0) => "token-0",
-            Some(4) => "token-4",
-            Some(_) => "unknown-token",
-        };
-        refused(23, at, &[reason], &[])
+        let (only, cut) = (self.entries.is_empty() && self.after_4(at), word(self.blob, at) == Some(NO_OPERATION));
+        match self.word(at) {
+            None if at == self.end() => refused(23, at, &["no-word"], &those(&[(only, "only-4s")])),
+            None => refused(23, at, &["cut-word"], &those(&[(cut, "cut-4")])),
+            Some(0) => refused(23, at, &["token-0"], &[]),
+            Some(_) => refused(23, at, &["unknown-token"], &[]),
+        }
     }
 
-    // Reads a begin with its name: where it ends.
+    // What a begin is that would lie so deep and has words 4 before it.
+    fn begin_corner(&self, depth: u64) -> &'static str {
+        match depth {
+            1 if self.entries.is_empty() => "4-before-first-top",
+            1 => "4-before-later-top",
+            _ => "4-before-child",
+        }
+    }
+
+    // Reads a begin with its name: the next token.
     fn begin(&mut self, at: u64, depth: u64) -> Tested<u64> {
         let (name, too_deep) = (at + 4, depth > MOST_DEPTH);
         let both = those(&[(too_deep, "and-25")]);
@@ -248,11 +291,11 @@ impl Walk<'_> {
         self.note(depth == 1 && length > 0, "named-top");
         self.note(depth > 1 && length == 0, "empty-name-below");
         self.note_padding(past, next);
-        self.entries.push([BEGIN, at, name, 0]);
-        Ok(next)
+        self.report([BEGIN, at, name, 0], self.begin_corner(depth));
+        Ok(self.next(next))
     }
 
-    // Reads a property, which may stand where none is allowed: where it ends.
+    // Reads a property, which may stand where none is allowed: the next token.
     fn property(&mut self, at: u64, reasons: &[&'static str]) -> Tested<u64> {
         let (Some(length), Some(offset)) = (self.word(at + 4), self.word(at + 8)) else {
             return refused(23, at, &[reasons, &["property-head-outside"]].concat(), &[]);
@@ -276,9 +319,10 @@ impl Walk<'_> {
         }
         self.note_name(offset);
         self.note(length == 0, "empty-value");
+        self.note_value(at + 12, past);
         self.note_padding(past, next);
-        self.entries.push([PROPERTY, at, self.header.strings.start + offset, length]);
-        Ok(next)
+        self.report([PROPERTY, at, self.header.strings.start + offset, length], "4-before-property");
+        Ok(self.next(next))
     }
 
     fn strings(&self) -> &[u8] {
@@ -358,6 +402,7 @@ fn survey(blob: &[u8], room: usize) -> Tested<Found> {
     })?;
     walked.map_err(|mut fault| {
         let later = fault.number != 23 && Walk::new(blob, h, false).whole().is_err();
+        fault.after_4 = walk.after_4(fault.place);
         fault.causes.extend(those(&[(later, "then-23"), (room / 4 < walk.entries.len(), "and-short")]));
         fault
     })?;
@@ -367,17 +412,17 @@ fn survey(blob: &[u8], room: usize) -> Tested<Found> {
 
 // Reads a blob into a list, which changes only where the blob is accepted.
 pub fn read(blob: &[u8], list: &mut [u32]) -> Outcome {
-    let refusal = |number, place, causes| Outcome { number, values: [0; 3], place, causes };
+    let refusal = |number, place, after_4, causes| Outcome { number, values: [0; 3], place, after_4, causes };
     let room = list.len();
     let found = match survey(blob, room) {
         Ok(found) => found,
-        Err(fault) => return refusal(fault.number, fault.place, fault.causes),
+        Err(fault) => return refusal(fault.number, fault.place, fault.after_4, fault.causes),
     };
     let (count, needed) = (found.entries.len(), 4 * found.entries.len());
     if room / 4 < count {
         let cause = if room / 4 + 1 == count { "one-entry-short" } else { "entries-short" };
         let corners = those(&[(room + 1 == needed, "one-number-short"), (room == 0, "no-list")]);
-        return refusal(30, 0, [&[cause], &corners[..]].concat());
+        return refusal(30, 0, false, [&[cause], &corners[..]].concat());
     }
     for (place, number) in list.iter_mut().zip(found.entries.iter().flatten()) {
         *place = *number as u32;
@@ -388,5 +433,5 @@ pub fn read(blob: &[u8], list: &mut [u32]) -> Outcome {
         (room > needed && room / 4 == count, "list-rest-below-4"),
         (room / 4 > count, "list-rest"),
     ]));
-    Outcome { number: 0, values: [found.boot, found.reservations, count as u64], place: 0, causes }
+    Outcome { number: 0, values: [found.boot, found.reservations, count as u64], place: 0, after_4: false, causes }
 }
