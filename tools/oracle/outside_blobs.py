@@ -1,5 +1,7 @@
-# Blobs for tools/outside-reader: good ones in every layout that document 01's reading takes, one by hand for each rule of
+# Blobs for tools/outside-reader: good ones in every layout that the reading takes, one by hand for each rule of
 # outside_rules.py, and altered ones.
+from collections import defaultdict
+from itertools import zip_longest
 
 from laid_out import laid_out as plain, padded, reserved, word as words
 from readers import LETTERS, NODE, PROPERTY, some
@@ -62,16 +64,16 @@ def headers_by_hand():
 
 def structures_by_hand():
     """Blobs that differ in the structure."""
-    yield "token 4", plain(root(words(4))), 23, "reads", "reads"
-    yield None, plain(words(4) + root()), 23, "refuses", "refuses"
-    yield None, plain(words(begin(), 2, 4, 9)), 23, "refuses", "refuses"
     yield "a property after a child", plain(root(begin("a"), words(2, 3, 0, 0)), b"a\0"), 23, "reads", "reads"
+    yield "a property after a child", plain(root(begin("a"), words(2, 4, 3, 0, 0)), b"a\0"), 23, "reads", "reads"
     yield None, plain(words(begin(), 2, 3, 0, 0, 9), b"a\0"), 23, "refuses", "refuses"
     yield "words after word 9", plain(root() + words(9)), 23, "reads", "reads"
+    yield "words after word 9", plain(root() + words(4)), 23, "reads", "reads"
     yield "words after word 9", plain(root() + b"\0"), 23, "reads", "reads"
     yield "a structure longer than its size", set_word(plain(root()), 9, 12), 23, "refuses", "reads"
     yield "a structure longer than its size", set_word(plain(root(begin("abcdefg"), words(2))), 9, 16), 23, "refuses", "reads"
     yield "a structure longer than its size", set_word(plain(root(words(3, 4, 0, 0)), b"a\0"), 9, 23), 23, "refuses", "reads"
+    yield "a structure longer than its size", set_word(plain(root(words(4))), 9, 12), 23, "refuses", "reads"
     yield "a value length that wraps", plain(root(words(3, 0xFFFFFFFF, 0)), b"a\0"), 23, "reads", "refuses"
     yield "a value length that wraps", plain(root(words(3, 0xFFFFFFF9, 2, 9)), b"a\0b\0"), 23, "reads", "refuses"
     yield None, plain(root(words(3, 0xFFFFFFF4, 0)), b"a\0"), 23, "refuses", "refuses"
@@ -85,6 +87,23 @@ def structures_by_hand():
     yield None, deep(64), 0, "reads", "reads"
     yield "depth 65", deep(65), 25, "reads", "reads"
     yield "depth 65", deep(90), 25, "reads", "reads"
+
+
+def words_4_by_hand():
+    """Blobs with words 4: before each token of a tree, outside the root, and with nothing after them."""
+    a, b = words(3, 1, 0, padded(b"x")), words(3, 0, 2)
+    parts = [begin(), a, b, begin("a"), a, words(2), begin("b"), words(2), words(2)]
+    for k in range(1, len(parts)):
+        yield None, plain(words(*parts[:k], 4, *parts[k:], 9), b"a\0b\0"), 0, "reads", "reads"
+    yield None, plain(words(parts[0], *(part for token in parts[1:] for part in (4, 4, 4, token)), 9), b"a\0b\0"), 0, "reads", "reads"
+    yield None, plain(root(a, words(*[4] * 1000), b), b"a\0b\0"), 0, "reads", "reads"
+    yield None, plain(root(words(3, 8, 0, 4, 4)), b"a\0"), 0, "reads", "reads"
+    for count in (1, 2):
+        yield "a word 4 before the root", plain(words(*[4] * count, root(a)), b"a\0"), 0, "refuses", "refuses"
+        yield "a word 4 after the root", plain(words(begin(), a, 2, *[4] * count, 9), b"a\0"), 0, "refuses", "refuses"
+    yield None, plain(words(begin(), 2, 4)), 23, "refuses", "refuses"
+    yield None, plain(words(begin(), 4)), 23, "refuses", "refuses"
+    yield None, plain(words(4)), 23, "refuses", "refuses"
 
 
 def trees_by_hand():
@@ -185,9 +204,18 @@ def tokens(r, node, places):
     yield words(2)
 
 
-def structure_of(r, tops, places):
-    """The structure of some top nodes."""
-    return words(*(token for node in tops for token in tokens(r, node, places)), 9)
+def structure_of(r, tops, places, skipped):
+    """The structure of some top nodes, with so many words 4 before each token; none where that is not said."""
+    found = [*(token for node in tops for token in tokens(r, node, places)), words(9)]
+    return words(*(words(*[4] * count, token) for token, count in zip_longest(found, skipped, fillvalue=0)))
+
+
+def some_skipped(r, tops):
+    """How many words 4 come before each token of some top nodes: in half of the blobs none, and outside of all nodes few."""
+    count = sum(1 for node in tops for _ in tokens(None, node, defaultdict(int)))
+    skipped = [r.choice([0, 0, 1, 3]) for _ in range(count + 1)] if r.random() < 0.5 else [0] * (count + 1)
+    skipped[0], skipped[-1] = r.choice([(0, 0)] * 12 + [(1, 0), (0, 1), (2, 3)])
+    return skipped
 
 
 def all_names(nodes):
@@ -197,10 +225,10 @@ def all_names(nodes):
         yield from all_names(node[2])
 
 
-def laid_out(r, boot, reservations, tops):
-    """A blob of a description: areas in any order, any bytes between them, and a strings area that may lie over others."""
+def laid_out(r, boot, reservations, tops, skipped=()):
+    """A blob of a description: areas in any order, any bytes between them, a strings area that may lie over others, and words 4."""
     strings, places = the_strings(r, list(all_names(tops)))
-    lengths = {"reservations": len(reserved(reservations)), "structure": len(structure_of(None, tops, places)), "strings": len(strings)}
+    lengths = {"reservations": len(reserved(reservations)), "structure": len(structure_of(None, tops, places, skipped)), "strings": len(strings)}
     order, starts, at = list(lengths), {}, 40
     if r.random() < 0.7:
         r.shuffle(order)
@@ -211,7 +239,7 @@ def laid_out(r, boot, reservations, tops):
     total = at + r.choice([0, 0, 3])
     low = r.choice([starts["strings"]] * 6 + [40, 40, 0, 39])
     high = r.choice([starts["strings"] + len(strings)] * 3 + [total])
-    structure = structure_of(r, tops, {name: at + starts["strings"] - low for name, at in places.items()})
+    structure = structure_of(r, tops, {name: at + starts["strings"] - low for name, at in places.items()}, skipped)
     blob = bytearray(r.randbytes(total))
     for area, data in (("reservations", reserved(reservations)), ("structure", structure), ("strings", strings)):
         blob[starts[area]:starts[area] + len(data)] = data
@@ -220,13 +248,13 @@ def laid_out(r, boot, reservations, tops):
 
 
 def a_good_blob(r):
-    """A blob that document 01 reads, of any layout; most describe what the specification takes."""
+    """A blob that is read, of any layout; most describe what the specification takes."""
     odd = r.choice([0, 0, 0, 0.15])
     sizes = [1, 4096, (1 << 64) - 1] + [0] * (r.random() < 0.1)
     reservations = [(r.choice([r.randrange(1 << 64), 1]), r.choice(sizes)) for _ in range(r.choice([0, 0, 1, 3]))]
     names = r.choice([[""]] * 12 + [[], ["", "b"], ["a"], ["a@1", ""]])
     tops = [a_node(r, name, [r.choice([0, 2, 8])], odd) for name in names]
-    return laid_out(r, r.choice([0, r.randrange(1 << 32)]), reservations, tops)
+    return laid_out(r, r.choice([0, r.randrange(1 << 32)]), reservations, tops, some_skipped(r, tops))
 
 
 # ---- altered ones

@@ -1,5 +1,5 @@
 # Where the reader and dtc or libfdt of the pinned version differ, by rules: each is judged on the blob alone, read here by
-# document 01 for itself. docs/DIFFERENCES.md has the table.
+# documents 01 and 02 for itself. docs/DIFFERENCES.md has the table.
 import re
 
 HEADER = ("magic", "total size", "structure offset", "strings offset", "reservations offset", "version", "last compatible version",
@@ -8,12 +8,13 @@ DEEPEST = 64
 
 
 class Reading:
-    """A blob by document 01: the number and place of its first fault and the causes that have a rule, or its description.
+    """A blob by documents 01 and 02: the number and place of its first fault and the causes that have a rule, or its description, with
+    the causes for others to refuse it that the description does not show.
 
     A node is [name, properties, children], a property [name, the value in hex]; a name has a letter for each byte."""
 
     def __init__(self, blob):
-        self.blob, self.number, self.place, self.causes = blob, 0, 0, set()
+        self.blob, self.number, self.place, self.causes, self.skipped = blob, 0, 0, set(), 0
         self.boot, self.reservations, self.tops = 0, [], []
         self.header = {name: self.word(4 * k) for k, name in enumerate(HEADER)}
         _ = self.read_header() and self.read_reservations() and self.read_structure()
@@ -70,8 +71,10 @@ class Reading:
             return self.begin(at)
         if kind == 3:
             return self.property(at)
+        if kind == 4:
+            return self.skip(at)
         if kind != 2 or not self.around:
-            return self.fault(23, at, kind == 9 and not self.around and "words after word 9", kind == 4 and self.around and "token 4")
+            return self.fault(23, at, kind == 9 and not self.around and "words after word 9")
         self.around.pop()
         self.ended = True
         return at + 4
@@ -89,6 +92,13 @@ class Reading:
         self.around.append(node)
         self.ended = False
         return after
+
+    def skip(self, at):
+        """A word 4, which describes nothing."""
+        self.skipped += 1
+        if not self.around:
+            self.causes.add("a word 4 after the root" if self.tops else "a word 4 before the root")
+        return at + 4
 
     def property(self, at):
         """A property of the open node."""
@@ -194,7 +204,6 @@ RULES = [
     Rule("reservations at no multiple of 8", WE_REFUSE, "libfdt dtc", "we refuse 21; they do not look at it"),
     Rule("a structure at no multiple of 4", WE_REFUSE, "libfdt dtc", "we refuse 21; they do not look at it"),
     Rule("reservations that end at a size of 0", WE_REFUSE, "libfdt dtc", "we refuse 22 if no pair is all zero; to them a size of 0 ends the list"),
-    Rule("token 4", WE_REFUSE, "libfdt dtc", "we refuse 23; they skip it inside the root"),
     Rule("a property after a child", WE_REFUSE, "libfdt dtc", "we refuse 23; libfdt passes over the property, dtc takes it"),
     Rule("words after word 9", WE_REFUSE, "libfdt dtc", "we refuse 23; they stop reading at word 9"),
     Rule("a structure longer than its size", WE_REFUSE, "dtc", "we and libfdt refuse, we 23; dtc reads on to the total size"),
@@ -202,6 +211,8 @@ RULES = [
     Rule("depth 65", WE_REFUSE, "libfdt dtc", "we refuse 25; they have no limit"),
     Rule("no top node", THEY_REFUSE, "libfdt dtc", "we read it; they ask for a root", lambda reading: not reading.tops),
     Rule("several top nodes", THEY_REFUSE, "libfdt dtc", "we read them; they ask for word 9 after the first", lambda reading: len(reading.tops) > 1),
+    Rule("a word 4 before the root", THEY_REFUSE, "libfdt dtc", "we skip it; dtc asks for a root first of all, and libfdt for one at offset 0"),
+    Rule("a word 4 after the root", THEY_REFUSE, "libfdt dtc", "we skip it; they ask for word 9 after the root"),
     Rule("a named top node", THEY_REFUSE, "libfdt", "we and dtc read it; libfdt refuses", lambda reading: any(node[0] for node in reading.tops[:1])),
     Rule("an area that starts in the header", THEY_REFUSE, "libfdt", "we and dtc read it; libfdt refuses",
          lambda reading: any(reading.header[area + " offset"] < 40 for area in ("structure", "strings", "reservations"))),
@@ -227,7 +238,7 @@ RULES = [
 
 
 def holding(reading, tool, kind):
-    """The rules of a kind that hold for a tool: rules about what is reported or refused by others only where document 01 reads the blob."""
+    """The rules of a kind that hold for a tool: rules about what is reported or refused by others only where the reading takes the blob."""
     if (kind == WE_REFUSE) == (reading.number == 0):
         return []
     return [rule for rule in RULES if rule.kind == kind and tool in rule.tools and rule.holds(reading)]

@@ -1,5 +1,5 @@
 # What tools/outside and tools/outside-reader share: dtc and libfdt as readers of blobs, each with a limit of time. Run by
-# itself it is the process that libfdt reads in.
+# itself it is the process that libfdt reads in, or blanks in where it has arguments.
 import ctypes
 import json
 import os
@@ -170,10 +170,16 @@ def libfdt_nodes(library, fdt):
     return around[:1]
 
 
-def libfdt_description(library, blob):
-    """What libfdt reports of a blob: boot number, reservations and nodes."""
+def lent(blob):
+    """A blob at an address that is a multiple of 8, as libfdt wants it."""
     fdt = (ctypes.c_uint64 * (len(blob) // 8 + 1))()
     ctypes.memmove(fdt, blob, len(blob))
+    return fdt
+
+
+def libfdt_description(library, blob):
+    """What libfdt reports of a blob: boot number, reservations and nodes."""
+    fdt = lent(blob)
     good(library, library.fdt_check_full(fdt, len(blob)))
     address, size, reserved = ctypes.c_uint64(), ctypes.c_uint64(), []
     for k in range(good(library, library.fdt_num_mem_rsv(fdt))):
@@ -192,6 +198,25 @@ def read_with_libfdt():
         except Refused as why:
             found = str(why)
         print(json.dumps(found), flush=True)
+
+
+def blanked(blob, parts, python):
+    """A blob in which libfdt blanks some parts: a node by its path, or a property by its node's path, a space and its name."""
+    done = subprocess.run([python, os.path.abspath(__file__), *parts], input=blob.hex().encode("ascii"), stdout=subprocess.PIPE, stderr=subprocess.PIPE)
+    if done.returncode != 0:
+        raise Trouble(1, "libfdt does not blank: " + done.stderr.decode("utf-8", "replace").strip().split("\n")[-1])
+    return bytes.fromhex(done.stdout.decode("ascii"))
+
+
+def blank_with_libfdt(parts):
+    """Blanks parts of the blob on standard input with libfdt, and writes it."""
+    library, blob = loaded(), bytes.fromhex(sys.stdin.read())
+    fdt = lent(blob)
+    for part in parts:
+        path, _, name = part.partition(" ")
+        at = good(library, library.fdt_path_offset(fdt, path.encode()))
+        good(library, library.fdt_nop_property(fdt, at, name.encode()) if name else library.fdt_nop_node(fdt, at))
+    print(bytes(fdt)[:len(blob)].hex())
 
 
 # What a Python can run if it has libfdt.
@@ -214,4 +239,4 @@ def needed():
 
 
 if __name__ == "__main__":
-    read_with_libfdt()
+    blank_with_libfdt(sys.argv[1:]) if sys.argv[1:] else read_with_libfdt()
