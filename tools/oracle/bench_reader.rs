@@ -160,6 +160,15 @@ fn reserved(bytes: usize) -> Load {
     m.finished()
 }
 
+// A root with nothing but words 4 in it.
+fn skipped(bytes: usize) -> Load {
+    let mut m = Maker::new(0, &[]);
+    while m.len() + 4 <= bytes {
+        m.words(&[4]);
+    }
+    m.finished()
+}
+
 // What libfdt answers.
 fn checked(load: &Load) -> i32 {
     unsafe { fdt_check_full(load.blob.as_ptr(), load.blob.len()) }
@@ -205,6 +214,9 @@ fn main() {
     }
     for size in [64, 256, 1024] {
         measure(&format!("one long name, {size} KiB"), &long_name(size * kib), rounds);
+    }
+    for size in [64, 1024] {
+        measure(&format!("words 4, {size} KiB"), &skipped(size * kib), rounds);
     }
     measure("64 levels, 64 KiB", &chains(63, 64 * kib), rounds);
     measure("nodes without properties, 64 KiB", &bare(64 * kib), rounds);
