@@ -405,7 +405,7 @@ fn faults(l: &mut Lines) {
     no_names(l, b, "");
 }
 
-// Structures whose fault stands after a word 4, or is a word 4 that is cut.
+// Structures whose fault comes after a word 4, or is a word 4 that is cut.
 fn faults_after_4(l: &mut Lines) {
     let (b, open) = (|| Body::new().nops(1), begun);
     for (heading, body) in [

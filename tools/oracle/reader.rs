@@ -23,7 +23,7 @@ const NUMBERS: usize = 65_536;
 // Every number of the list before a call.
 const MARK: u32 = 0xeeee_eeee;
 
-// How often each number was given, apart where words 4 stand before the fault: in all, and for each cause and at each
+// How often each number was given, apart where words 4 come before the fault: in all, and for each cause and at each
 // corner.
 type Counts = BTreeMap<(u32, bool, &'static str), u64>;
 

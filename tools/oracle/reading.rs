@@ -1,6 +1,6 @@
 // A model of the reader, written from documents 01 and 02 alone: a node reads its properties and then its children,
-// and each child is a node again. Each leads on to the next token, past the words 4 that stand before it. Words have 32
-// bits and sums of them are formed in 64, so none wraps.
+// and each child is a node again. Each leads on to the next token, past the words 4 before it. Words have 32 bits and
+// sums of them are formed in 64, so none wraps.
 use std::collections::BTreeSet;
 
 // The deepest that a node may lie.
@@ -13,8 +13,8 @@ const PROPERTY: u64 = 3;
 const NO_OPERATION: u64 = 4;
 const FINAL: u64 = 9;
 
-// What the reader must answer: number, values and place of the fault; and what is counted: whether words 4 stand before
-// the fault, the causes and the corners.
+// What the reader must answer: number, values and place of the fault; and what is counted: whether words 4 come
+// before the fault, the causes and the corners.
 pub struct Outcome {
     pub number: u32,
     pub values: [u64; 3],
@@ -23,7 +23,7 @@ pub struct Outcome {
     pub causes: Vec<&'static str>,
 }
 
-// A refusal: its number, the place of the fault, whether words 4 stand before it, and its causes.
+// A refusal: its number, the place of the fault, whether words 4 come before it, and its causes.
 struct Fault {
     number: u32,
     place: u64,
@@ -191,12 +191,12 @@ impl Walk<'_> {
         self.note(words.any(|word| word == [0, 0, 0, 4]), "4-in-a-value");
     }
 
-    // Whether words 4 stand just before a token.
+    // Whether words 4 come just before a token.
     fn after_4(&self, at: u64) -> bool {
         self.skipped == Some(at)
     }
 
-    // The place of the next token: here, or after the words 4 that stand here.
+    // The place of the next token: here, or after the words 4 that are here.
     fn next(&mut self, at: u64) -> u64 {
         if self.word(at) != Some(NO_OPERATION) {
             return at;
@@ -206,7 +206,7 @@ impl Walk<'_> {
         self.next(at + 4)
     }
 
-    // Reports a token, and notes what it is where words 4 stand before it.
+    // Reports a token, and notes what it is where words 4 come before it.
     fn report(&mut self, entry: [u64; 4], corner: &'static str) {
         self.note(self.after_4(entry[1]), corner);
         self.entries.push(entry);
@@ -252,7 +252,7 @@ impl Walk<'_> {
         }
     }
 
-    // The fault of a place where no token stands.
+    // The fault of a place where no token is.
     fn no_token<T>(&self, at: u64) -> Tested<T> {
         let (only, cut) = (self.entries.is_empty() && self.after_4(at), word(self.blob, at) == Some(NO_OPERATION));
         match self.word(at) {
