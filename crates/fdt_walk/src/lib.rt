@@ -50,16 +50,16 @@ pub fn number(refusal: Refusal) -> u32
 
 // Takes the next token from a state on. Words 4 before it are skipped, and the place of a fault is the token's. It promises how
 // the walk goes on, that the place moves on and what kind of entry it is, not which token it is.
-pub fn token_at(blob: &[u8], a: Areas, from: State) -> Token
-    requires { ⌜ Trimmed (now blob) a × Stands a from ⌝ }
-    ensures { λ r. ⌜ Takes (now (blob .entry)) a from r ⌝ }
+pub fn token_at(blob: &[u8], a: Areas, s: State) -> Token
+    requires { ⌜ Trimmed (now blob) a × Stands a s ⌝ }
+    ensures { λ r. ⌜ Takes (now (blob .entry)) a s r ⌝ }
 {
-    let mut s = from;
+    let mut here = s;
     loop {
-        let place = s.at;
-        let read = step_at(blob, a, s);
+        let place = here.at;
+        let read = step_at(blob, a, here);
         match read {
-            Step::Skip => s.at += 4,
+            Step::Skip => here.at += 4,
             Step::Final => return Token::Final,
             Step::Bad(reason) => {
                 return Token::Refused(Fault {

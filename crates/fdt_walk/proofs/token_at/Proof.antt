@@ -9,16 +9,16 @@ use Rattle.fdt_walk.proofs.token_at.Statement.{statement}
 use Rattle.fdt_walk.proofs.token_at.Tie as tie
 
 abbrev Inv-loop : tie.InvT-loop
-Inv-loop blob a s₀ s = Stands a s × ((r : Token) → Takes blob a s r → Takes blob a s₀ r)
+Inv-loop blob a s here = Stands a here × ((r : Token) → Takes blob a here r → Takes blob a s r)
 
 abbrev μ-loop : tie.MeasureT-loop
-μ-loop blob a s₀ s = a .«structure_end» - s .at
+μ-loop blob a s here = a .«structure_end» - here .at
 
 loop-holds : tie.Need-loop-holds Inv-loop μ-loop
 loop-holds c = (c .before .pre .1, λ r h. h)
 
-add-s : tie.Need-add-s Inv-loop μ-loop
-add-s c =
+add-here : tie.Need-add-here Inv-loop μ-loop
+add-here c =
     let read = c .before .before .before in
     let inside = read .before .before .before .pre .0 .inside in
     omega (arith, takes-skip (read .step-at .ensures) (c .before .enum-told .given .1) .0 .within, inside .structure, inside .small)
@@ -65,7 +65,7 @@ token-at-spec =
     μ-loop
     loop-holds
     (λ c κs. search needs) (λ c. search needs)
-    add-s
+    add-here
     loop-less
     loop-again
     (λ c. search needs)
