@@ -63,11 +63,10 @@ unfolding eventsOf
 tokens-front [] ps = refl
 tokens-front (e ∷ es) ps = ap (λ (l : List Event). e ∷ l) (tokens-front es ps)
 
-module _ (names : List (List ℕ)) where
-  blanks-bytes : (n : ℕ) → piecesBytes names (replicate n blank) ≡ wordsFour n
-  unfolding piecesBytes pieceBytes wordsFour cellBytes
-  blanks-bytes zero = refl
-  blanks-bytes (suc n) = ap (λ (l : List ℕ). bigEndian 4 skipToken ++ l) (blanks-bytes n)
+blanks-bytes : (names : List (List ℕ)) (n : ℕ) → piecesBytes names (replicate n blank) ≡ wordsFour n
+unfolding piecesBytes pieceBytes wordsFour cellBytes
+blanks-bytes names zero = refl
+blanks-bytes names (suc n) = ap (λ (l : List ℕ). bigEndian 4 skipToken ++ l) (blanks-bytes names n)
 
 blanks-front : (n : ℕ) (ps : List Piece) → eventsOf (replicate n blank ++ ps) ≡ eventsOf ps
 unfolding eventsOf

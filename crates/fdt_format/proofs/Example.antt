@@ -6,14 +6,17 @@ use Prim.Native.Nat.{ℕ, _<_, _^_}
 use lib.Dec.{lit<}
 use lib.ListN.{length}
 use Rattle.fdt_bytes.specs.BigEndian.{bigEndian, cellBytes}
-use Rattle.fdt_bytes.specs.Padding.{padding, zeros, padded}
+use Rattle.fdt_bytes.specs.Padding.{padding, roundUp, zeros, padded}
+use Rattle.fdt_bytes.specs.Splice.{splice}
 use Rattle.fdt_strings.specs.Entries.{foundValues, entry, joined, same, firstFrom, NoZero, no-byte, next-byte}
 use Rattle.fdt_format.specs.Description.{_≔_, no-more, node, reservation, Description}
-use Rattle.fdt_format.specs.Events.{propertyEvents, events}
+use Rattle.fdt_format.specs.Blanks.{wordsFour}
+use Rattle.fdt_format.specs.Events.{begins, has, ends, propertyEvents, events}
 use Rattle.fdt_header.specs.Header.{reservationBytes, wordsFrom, headerWords, headerBytes}
 use Rattle.fdt_format.specs.Tokens.{beginBytes, propertyBytes, endBytes, finalBytes}
 use Rattle.fdt_format.specs.Reading.{reading}
-use Rattle.fdt_format.specs.Blob.{orAtEnd, withName, namesFrom, namesOf, foundAt, offsetOf, eventBytes, structureBytes, numbersOf, blobFrom, blobOf, Plain, AllPlain, AllReservable, WellFormed}
+use Rattle.fdt_format.specs.Blob.{orAtEnd, withName, namesFrom, namesOf, foundAt, offsetOf, eventBytes, structureBytes, eventSize, eventsSize, numbersOf, blobFrom, blobOf, Plain, AllPlain, AllReservable, WellFormed}
+use Rattle.fdt_format.proofs.Blanked.{read-overwritten}
 use Rattle.fdt_format.proofs.ReadBack.{read-blob}
 
 -- "a" is 5 in the first node and empty in its child "b"
@@ -62,3 +65,12 @@ example-formed = record {
 -- and these bytes are read as the description
 pub example-read : reading exampleBytes ≡ some example
 example-read = ap reading (sym example-blob) ∙ read-blob example example-formed
+
+-- with three words 4 over the child's property, at 104, they are read as the description without it
+pub example-blanked :
+    reading (splice 104 (wordsFour 3) exampleBytes)
+    ≡ some (record { reservations = reservation 0x1000 0x200 ∷ []; boot = 7; nodes = node [] (((97 ∷ []) ≔ (5 ∷ [])) ∷ []) (node (98 ∷ []) [] no-more no-more) no-more })
+unfolding example events propertyEvents eventsSize eventSize roundUp padding
+example-blanked =
+    ap (λ (b : List ℕ). reading (splice 104 (wordsFour 3) b)) (sym example-blob)
+    ∙ read-overwritten example example-formed _ (begins [] ∷ has ((97 ∷ []) ≔ (5 ∷ [])) ∷ begins (98 ∷ []) ∷ []) (has ((97 ∷ []) ≔ []) ∷ []) (ends ∷ ends ∷ []) refl refl

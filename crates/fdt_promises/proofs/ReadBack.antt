@@ -25,7 +25,7 @@ use Rattle.fdt_reader.specs.Reader.{numberOf, filled, Read}
 use Rattle.fdt_reader.proofs.Exactly.{number-exactly, accepted-tells, refused-unaltered, refused-valueless}
 use Rattle.fdt_record.specs.Limits.{mostDepth}
 use Rattle.fdt_opening.specs.Opening.{count}
-use Rattle.fdt_promises.specs.Run.{Run, eventsIn, bootIn, Finishes, blob}
+use Rattle.fdt_promises.specs.Run.{Run, eventsIn, Finishes, blob}
 use Rattle.fdt_promises.specs.ReadBack.{entryAt, entriesFrom, stringsIn, entriesIn, ReadWhole, RefusedShort, ReadBack}
 use Rattle.fdt_promises.proofs.Described.{toldBy, run-count, at-end, run-told, run-read}
 

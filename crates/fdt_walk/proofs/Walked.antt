@@ -1,5 +1,5 @@
 -- A reader's walk is its first step and the walk after it, so a word 4 makes no difference; the strings may be cut after their last 0.
-use mathlib.Core.Path.{_≡_, refl, sym, ap, subst, _∙_}
+use mathlib.Core.Path.{_≡_, refl, sym, subst, _∙_}
 use mathlib.Core.List.{List}
 use Prim.Native.Nat.{ℕ, zero, suc, _+_, _-_, _≤_, _<_}
 use native.Mathlib.Omega.{arith}
@@ -66,6 +66,7 @@ goes-past b a s (token.Entry t s') n = record {
 goes-past b a s token.Final n = n
 goes-past b a s (token.Refused fault) n = tt
 
+-- a step that is read, and how it moves the state
 known : (b : List ℕ) (a : Areas) (s : State) {x y : Step} → x ≡ stepAt b a s → x ≡ y → (stepAt b a s ≡ y) × Stepped b a s y
 known b a s q e = let r = sym q ∙ e in (r, subst (Stepped b a s) r (step-stepped b a s))
 
