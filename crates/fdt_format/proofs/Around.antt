@@ -86,7 +86,7 @@ splice-mid : (at : ℕ) (x m y w : List ℕ) → length x ≡ at → length w �
 unfolding splice over
 splice-mid at x m y w p e = rw (take-at x (m ++ y) at p, drop-at x (m ++ y) at p, drop-at m y (length w) (sym e))
 
--- as many other bytes in the middle of the structure are written there alone
+-- overwriting a part of the structure with as many bytes changes that part alone
 pub splice-around : (rs : List Reservation) (boot : ℕ) (strings : List ℕ) (at : ℕ) (x m y w : List ℕ) → structureStart (length rs) + length x ≡ at → length w ≡ length m
     → splice at w (blobAround rs boot (x ++ (m ++ y)) strings) ≡ blobAround rs boot (x ++ (w ++ y)) strings
 splice-around rs boot strings at x m y w p e =

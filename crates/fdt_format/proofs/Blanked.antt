@@ -9,7 +9,7 @@ use Rattle.fdt_bytes.specs.BigEndian.{bigEndian, cellBytes}
 use Rattle.fdt_bytes.specs.Splice.{splice}
 use Rattle.fdt_bytes.proofs.BigEndian.{length-cells}
 use Rattle.fdt_strings.specs.Entries.{joined}
-use Rattle.fdt_strings.proofs.Entries.{no-entry}
+use Rattle.fdt_strings.proofs.Entries.{no-entry, PlainNames}
 use Rattle.fdt_header.specs.Header.{structureStart}
 use Rattle.fdt_format.specs.Blanks.{Piece, token, blank, eventsOf, pieceBytes, piecesBytes, spacedBlob, wordsFour}
 use Rattle.fdt_format.specs.Blob.{namesOf, structureBytes, eventsSize, blobAround, blobFrom, blobOf, AllPlain, WellFormed}
@@ -25,13 +25,11 @@ use Rattle.fdt_format.proofs.TokensRead.{size-multiple}
 
 -- ---- words 4 between tokens
 
--- a description is read, wherever words 4 are put into its structure
-pub read-spaced : (d : Description) (ps : List Piece) → WellFormed d → eventsOf ps ≡ events (d .nodes) [] → length (spacedBlob d ps) < 2 ^ 32 → reading (spacedBlob d ps) ≡ some d
-unfolding spacedBlob namesOf
-read-spaced d ps w is size =
-    let plain : AllPlain (eventsOf ps) = rw is (w .names) in
-    pieces-described (d .reservations) (d .boot) (namesOf (eventsOf ps)) ps (d .nodes) is _ refl size (w .boot)
-    (names-plain (eventsOf ps) plain no-entry) plain (names-have [] (eventsOf ps)) (w .reservable)
+-- a description is read, wherever words 4 are among its tokens, and whatever other names the strings have
+pub read-spaced : (d : Description) (names : List (List ℕ)) (ps : List Piece) → WellFormed d → eventsOf ps ≡ events (d .nodes) [] → PlainNames names → AllHas names (eventsOf ps)
+    → length (spacedBlob d names ps) < 2 ^ 32 → reading (spacedBlob d names ps) ≡ some d
+unfolding spacedBlob
+read-spaced d names ps w is plain h size = pieces-described (d .reservations) (d .boot) names ps (d .nodes) is _ refl size (w .boot) plain (rw is (w .names)) h (w .reservable)
 
 -- ---- what holds of events holds without some in the middle
 

@@ -10,13 +10,14 @@ use Rattle.fdt_bytes.proofs.BigEndian.{length-bigEndian}
 use Rattle.fdt_strings.specs.Entries.{entry, joined}
 use Rattle.fdt_strings.proofs.Entries.{Stands, stands-fits, length-entry, PlainNames}
 use Rattle.fdt_format.specs.declared.Areas.{Areas}
+use Rattle.fdt_format.specs.declared.Entry.{Entry}
 use Rattle.fdt_format.specs.declared.State.{State}
 use Rattle.fdt_format.specs.declared.Step.the-variants as step
 use Rattle.fdt_format.specs.Description.{_≔_}
 use Rattle.fdt_format.specs.Events.{Event, begins, has, ends, nodesOf}
-use Rattle.fdt_format.specs.Tokens.{finalToken, finalBytes}
+use Rattle.fdt_format.specs.Tokens.{skipToken, finalToken, finalBytes}
 use Rattle.fdt_format.specs.Step.{past, stepAt}
-use Rattle.fdt_format.specs.Walk.{good, walk, walkStart, SkipsNone, final, entry as next-entry}
+use Rattle.fdt_format.specs.Walk.{good, walk, walkStart}
 use Rattle.fdt_format.specs.Reading.{eventAt, walkNodes, readNodes}
 use Rattle.fdt_format.specs.Blob.{offsetOf, eventBytes, Plain, AllPlain, eventSize}
 use Rattle.fdt_format.specs.Blanks.{Piece, token, blank, eventsOf, pieceBytes, piecesBytes}
@@ -71,6 +72,11 @@ module _ {b : List ℕ} {a : Areas} {names : List (List ℕ)} {strings : List �
       held = bytes-right (pieceBytes names p) (piecesBytes names ps ++ finalBytes strings) rest _ (rw size (sym e));
     }
 
+-- the walk from a state on skips no word: entry follows entry, up to the final word
+pub data SkipsNone (b : List ℕ) (a : Areas) : State → Type 0 where
+  at-final : {s : State} → stepAt b a s ≡ step.Final → SkipsNone b a s
+  at-entry : {s : State} {t : Entry} {s' : State} → stepAt b a s ≡ step.Entry t s' → SkipsNone b a s' → SkipsNone b a s
+
 -- the steps from a state on, piece by piece
 module _ (b : List ℕ) (a : Areas) (names : List (List ℕ)) where
   unfoldable pub Chain : State → List Piece → Type 0
@@ -95,8 +101,8 @@ module _ (b : List ℕ) (a : Areas) (names : List (List ℕ)) where
   -- without words 4 none is skipped
   pub chain-plain : (es : List Event) (s : State) → Chain s (map token es) → SkipsNone b a s
   unfolding Chain
-  chain-plain [] s c = final c
-  chain-plain (e ∷ es) s c = next-entry (c .0 .step) (chain-plain es (stateAfter s e) (c .1))
+  chain-plain [] s c = at-final c
+  chain-plain (e ∷ es) s c = at-entry (c .0 .step) (chain-plain es (stateAfter s e) (c .1))
 
 -- If a blob holds the strings of plain names, each piece that uses them is read.
 module _ (b : List ℕ) (a : Areas) (names : List (List ℕ)) (strings : List ℕ) (small : length b < 2 ^ 32) (every : (name : List ℕ) → Has names name → Named b a names name) where
@@ -111,7 +117,7 @@ module _ (b : List ℕ) (a : Areas) (names : List (List ℕ)) (strings : List �
   unfolding Accepted AllPlain Plain AllHas eventBytes pieceBytes piecesBytes eventsOf stateAfter depthAfter takesAfter Chain
   pieces-read [] depth ended s c d r p f h = final-read b a names s strings (h .held) (omega (arith, h .ended)) (d ∙ c)
   pieces-read (blank ∷ ps) depth ended s c d r p f h =
-      (skip-read b a names s (first-held h) (first-fits h 4 (length-bigEndian 4 4)), pieces-read ps depth ended (past s) c d r p f (stood-on h 4 (length-bigEndian 4 4) refl refl))
+      (skip-read b a names s (first-held h) (first-fits h 4 (length-bigEndian 4 skipToken)), pieces-read ps depth ended (past s) c d r p f (stood-on h 4 (length-bigEndian 4 skipToken) refl refl))
   pieces-read (token (begins name) ∷ ps) depth ended s c d r p f h =
       let e = begins name in (
         begin-read b a names s name (h .multiple) (first-held h) (first-fits h _ (event-size names e)) (p .0),

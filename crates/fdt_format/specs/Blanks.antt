@@ -5,7 +5,7 @@ use Prim.Native.Nat.{ℕ}
 use lib.ListN.{replicate}
 use Rattle.fdt_bytes.specs.BigEndian.{bigEndian, cellBytes}
 use Rattle.fdt_strings.specs.Entries.{joined}
-use Rattle.fdt_format.specs.Blob.{namesOf, eventBytes, blobAround}
+use Rattle.fdt_format.specs.Blob.{eventBytes, blobAround}
 use Rattle.fdt_format.specs.Description.{Description}
 use Rattle.fdt_format.specs.Events.{Event}
 use Rattle.fdt_format.specs.Tokens.{skipToken}
@@ -31,9 +31,9 @@ unfoldable pub piecesBytes : List (List ℕ) → List Piece → List ℕ
 piecesBytes names [] = []
 piecesBytes names (p ∷ ps) = pieceBytes names p ++ piecesBytes names ps
 
--- the blob of a description's reservations and boot number, with pieces as its structure
-unfoldable pub spacedBlob : Description → List Piece → List ℕ
-spacedBlob d ps = let names : List (List ℕ) = namesOf (eventsOf ps) in blobAround (d .reservations) (d .boot) (piecesBytes names ps) (joined names)
+-- the blob of a description's reservations and boot number, with pieces as its structure, and the strings of these names
+unfoldable pub spacedBlob : Description → List (List ℕ) → List Piece → List ℕ
+spacedBlob d names ps = blobAround (d .reservations) (d .boot) (piecesBytes names ps) (joined names)
 
 -- n words 4
 unfoldable pub wordsFour : ℕ → List ℕ

@@ -1,4 +1,5 @@
--- Blobs that our writer does not make, and what the reading says of each: made by hand from document 01, "How a blob is read".
+-- Blobs that our writer does not make, and what the reading says of each: made by hand from document 01, "How a blob is read", and
+-- document 02, request 3/14.
 -- A blob that is refused breaks one rule. Without that rule it would be read, or at least its walk would not stop.
 use mathlib.Core.Path.{_≡_}
 use mathlib.Core.Bool.{Bool, true, false}

@@ -1,4 +1,4 @@
--- How a blob is read (document 01; Devicetree Specification v0.4, chapter 5): from any bytes to a description, or none.
+-- How a blob is read (document 01; document 02, request 3/14; Devicetree Specification v0.4, chapter 5): from any bytes to a description, or none.
 use mathlib.Core.Bool.{Bool, _&&_, cond}
 use mathlib.Core.List.{List, [], _∷_, map}
 use mathlib.Core.Option.{Option, none, some}

@@ -1,4 +1,5 @@
--- Reading one token of the structure (document 01, "How a blob is read"; Devicetree Specification v0.4, section 5.4).
+-- Reading one token of the structure (document 01, "How a blob is read"; document 02, request 3/14; Devicetree Specification v0.4,
+-- section 5.4).
 use mathlib.Core.Bool.{Bool, true, false, _&&_, cond}
 use mathlib.Core.List.{List}
 use Prim.Native.Nat.{ℕ, zero, suc, _+_, _-_}

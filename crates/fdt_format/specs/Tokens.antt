@@ -1,4 +1,5 @@
--- The structure's words and bytes (document 01, "The bytes"; Devicetree Specification v0.4, section 5.4).
+-- The structure's words and bytes (document 01, "The bytes"; word 4: document 02, request 3/14; Devicetree Specification v0.4, section
+-- 5.4).
 use Prim.Native.Nat.{ℕ, _+_}
 use mathlib.Core.List.{List, [], _∷_, _++_}
 use lib.ListN.{length}

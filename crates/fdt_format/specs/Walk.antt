@@ -47,8 +47,3 @@ walkStart a = record { at = a .structure; depth = 0; «takes_property» = false 
 unfoldable pub TokensAt : List ℕ → List Entry → Type 0
 TokensAt b [] = Unit {0}
 TokensAt b (t ∷ ts) = (wordAt b (t .place) ≡ t .token) × TokensAt b ts
-
--- the walk from a state on skips no word: entry follows entry, up to the final word
-pub data SkipsNone (b : List ℕ) (a : Areas) : State → Type 0 where
-  final : {s : State} → stepAt b a s ≡ step.Final → SkipsNone b a s
-  entry : {s : State} {t : Entry} {s' : State} → stepAt b a s ≡ step.Entry t s' → SkipsNone b a s' → SkipsNone b a s

@@ -10,6 +10,7 @@ use lib.ListN.{length}
 use Rattle.fdt_bytes.specs.BigEndian.{wordAt, cellBytes}
 use Rattle.fdt_bytes.specs.Splice.{splice}
 use Rattle.fdt_strings.specs.Entries.{entry, joined}
+use Rattle.fdt_strings.proofs.Entries.{PlainNames}
 use Rattle.fdt_values.specs.Value.{Value, valueBytes}
 use Rattle.fdt_format.specs.Blanks.{Piece, eventsOf, spacedBlob, wordsFour}
 use Rattle.fdt_format.specs.Blob.{namesOf, eventsSize, blobOf, WellFormed}
@@ -22,15 +23,20 @@ use Rattle.fdt_header.specs.Header.{structureStart}
 use Rattle.fdt_format.specs.Reading.{areasOf, reading}
 use Rattle.fdt_format.specs.Step.{past}
 use Rattle.fdt_format.specs.Tokens.{skipToken}
-use Rattle.fdt_format.specs.Walk.{walk, walkStart, SkipsNone}
+use Rattle.fdt_format.specs.Walk.{walk, walkStart, TokensAt}
 use Rattle.fdt_format.proofs.Blanked.{read-spaced, read-overwritten}
 use Rattle.fdt_format.proofs.Foreign.{foreign-read}
 use Rattle.fdt_format.proofs.ReadBack.{read-blob}
-use Rattle.fdt_format.proofs.Strings.{Distinct, names-once}
+use Rattle.fdt_format.proofs.Nested.{tokens-at}
+use Rattle.fdt_format.proofs.Strings.{AllHas, Distinct, names-once}
 use Rattle.fdt_format.proofs.Walks.{walk-skip}
+use Rattle.fdt_walk.specs.declared.Fault.{Fault}
+use Rattle.fdt_walk.specs.Reached.{Reached, Meets}
 use Rattle.fdt_walk.specs.ReaderWalk.{readerWalk}
+use Rattle.fdt_walk.proofs.Reached.{no-fault-at-4}
 use Rattle.fdt_walk.proofs.Walked.{reader-skip}
 use Rattle.fdt_reader.specs.declared.ReadAnswer.{ReadAnswer}
+use Rattle.fdt_reader.specs.Numbers.{Tells}
 use Rattle.fdt_reader.specs.Reader.{Read}
 use Rattle.fdt_record.specs.declared.Answer.{Answer}
 use Rattle.fdt_record.specs.declared.Answer.the-variants.{Done, Misfit}
@@ -54,7 +60,7 @@ use Rattle.fdt_promises.proofs.PastUsable.{past-usable, shown-usable}
 use Rattle.fdt_promises.proofs.Described.{run-holds, run-fits, run-given, run-shown, run-length, run-read, same-runs, same-history}
 use Rattle.fdt_promises.proofs.Examples.{empty-run, node-run, examples-shown}
 use Rattle.fdt_promises.proofs.Idle.{same-told, same-kinds, kinds-as-bytes, same-phandle, one-more}
-use Rattle.fdt_promises.proofs.ReadBack.{none-skipped, read-back}
+use Rattle.fdt_promises.proofs.ReadBack.{none-written, read-back}
 use Rattle.fdt_promises.proofs.Starred.{starred-hold}
 
 -- ---- demand 1: any call with any arguments, over any record and buffers of any size
@@ -182,10 +188,20 @@ pub word-4-skipped : (b : List ℕ) (a : Areas) (s : State) → s .at + 4 ≤ a 
     → (walk b a s ≡ walk b a (past s)) × (readerWalk b a s ≡ readerWalk b a (past s))
 word-4-skipped b a s h w = (walk-skip b a s h w, reader-skip b a s h w)
 
--- A description is read, wherever words 4 are put between the tokens of its blob.
-pub words-4-between : (d : Description) (ps : List Piece) → WellFormed d → eventsOf ps ≡ events (d .nodes) [] → length (spacedBlob d ps) < 2 ^ 32
-    → reading (spacedBlob d ps) ≡ some d
-words-4-between = read-spaced
+-- So a reader never meets a fault at a word 4,
+pub no-fault-at-word-4 : (b : List ℕ) (a : Areas) {f : Fault} → Meets b a f → f .place + 4 ≤ a .«structure_end» → wordAt b (f .place) ≡ skipToken → ⊥
+no-fault-at-word-4 = no-fault-at-4
+
+-- and at the place of every entry that it lists is the entry's token.
+pub token-at-its-place : {b before after : List ℕ} {r : ReadAnswer} {d : Description} (t : Tells b before after r d) → TokensAt b (t .entries)
+token-at-its-place {b} t = tokens-at b (areasOf b) (walkStart (areasOf b)) (t .entries) (t .walked)
+
+-- A description is read, wherever words 4 are among the tokens of its blob, and whatever names its strings have besides, for example
+-- those of properties that were blanked.
+pub words-4-anywhere : (d : Description) (names : List (List ℕ)) (ps : List Piece) → WellFormed d → eventsOf ps ≡ events (d .nodes) []
+    → PlainNames names → AllHas names (eventsOf ps) → length (spacedBlob d names ps) < 2 ^ 32
+    → reading (spacedBlob d names ps) ≡ some d
+words-4-anywhere = read-spaced
 
 -- If words 4 are written over some tokens of its blob, for example over those of a property or of a node, the nodes that the others
 -- describe are read.
@@ -195,9 +211,10 @@ pub words-4-over : (d : Description) → WellFormed d → (left : Nodes) (before
     ≡ some (record { reservations = d .reservations; boot = d .boot; nodes = left })
 words-4-over = read-overwritten
 
--- A finished run has none: the reading of its blob skips no word.
-pub no-word-4 : (r : Run) → Finishes r → SkipsNone (blob r) (areasOf (blob r)) (walkStart (areasOf (blob r)))
-no-word-4 = none-skipped
+-- A finished run has none: no state that a reader reaches in its blob is at a word 4.
+pub no-word-4 : (r : Run) → Finishes r → {s : State} → Reached (blob r) (areasOf (blob r)) s
+    → s .at + 4 ≤ areasOf (blob r) .«structure_end» → wordAt (blob r) (s .at) ≡ skipToken → ⊥
+no-word-4 = none-written
 
 -- ---- document 01's cases
 
@@ -209,6 +226,6 @@ starred-cases = starred-hold
 pub empty-and-node : Finishes empty-run × (blob empty-run ≡ cellBytes 4 emptyWords) × Finishes node-run × (blob node-run ≡ cellBytes 4 nodeWords)
 empty-and-node = examples-shown
 
--- Blobs that our writer does not make, in one table: each is read or refused as document 01 says.
+-- Blobs that our writer does not make, in one table: each is read or refused as document 01 and request 3/14 say.
 pub foreign-blobs : AllRead foreign
 foreign-blobs = foreign-read

@@ -4,6 +4,7 @@ use mathlib.Core.List.{List, [], _∷_, append-nil, map}
 use Prim.Native.Nat.{ℕ, _+_, _/_, _≤_, _<_}
 use native.Mathlib.Omega.{arith}
 use lib.ListN.{length}
+use Rattle.fdt_bytes.specs.BigEndian.{wordAt}
 use Rattle.fdt_header.specs.Header.{structureStart}
 use Rattle.fdt_format.specs.declared.Areas.{Areas}
 use Rattle.fdt_format.specs.declared.Entry.{Entry}
@@ -13,12 +14,15 @@ use Rattle.fdt_format.specs.Blanks.{token}
 use Rattle.fdt_format.specs.Description.{_≔_}
 use Rattle.fdt_format.specs.Events.{Event, begins, has, ends, events}
 use Rattle.fdt_format.specs.Reading.{areasOf, eventAt}
-use Rattle.fdt_format.specs.Walk.{good, walk, walkStart, SkipsNone}
+use Rattle.fdt_format.specs.Tokens.{skipToken}
+use Rattle.fdt_format.specs.Walk.{good, walk, walkStart}
 use Rattle.fdt_format.proofs.ReadBack.{structure-from, strings-from, tokens-events, events-read}
 use Rattle.fdt_format.proofs.TokensRead.{stateAfter, entryOf, entriesOf}
 use Rattle.fdt_format.proofs.Written.{Chain, chain-walked, chain-events, chain-plain}
 use Rattle.fdt_walk.specs.Depth.{mostOpen}
+use Rattle.fdt_walk.specs.Reached.{Reached}
 use Rattle.fdt_walk.proofs.Capped.{Shallow, shallow-nodes}
+use Rattle.fdt_walk.proofs.Reached.{none-at-4}
 use Rattle.fdt_reader.specs.declared.ReadAnswer.{ReadAnswer}
 use Rattle.fdt_reader.specs.Numbers.{Describes, short-list}
 use Rattle.fdt_reader.specs.Reader.{numberOf, filled, Read}
@@ -83,9 +87,9 @@ module _ (r : Run) (f : Finishes r) where
       ∙ chain-events (blob r) (areasOf (blob r)) (namesOf (eventsIn r)) (map token (eventsIn r)) (walkStart (areasOf (blob r))) (found .read)
       ∙ tokens-events (eventsIn r)
 
-  -- no word is skipped
-  pub none-skipped : SkipsNone (blob r) (areasOf (blob r)) (walkStart (areasOf (blob r)))
-  none-skipped = chain-plain (blob r) (areasOf (blob r)) (namesOf (eventsIn r)) (eventsIn r) (walkStart (areasOf (blob r))) (found .read)
+  -- no state is at a word 4
+  pub none-written : {s : State} → Reached (blob r) (areasOf (blob r)) s → s .at + 4 ≤ areasOf (blob r) .«structure_end» → wordAt (blob r) (s .at) ≡ skipToken → ⊥
+  none-written = none-at-4 _ _ (chain-plain (blob r) (areasOf (blob r)) (namesOf (eventsIn r)) (eventsIn r) (walkStart (areasOf (blob r))) (found .read))
 
   -- the walk finds the run's entries
   walked : walk (blob r) (areasOf (blob r)) (walkStart (areasOf (blob r))) ≡ good (entriesIn r)

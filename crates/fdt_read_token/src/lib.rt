@@ -1,4 +1,5 @@
-// Reads one token of a lent blob: from a state of the reading to an entry and the next state, the final word, or a refusal.
+// Reads one token of a lent blob: from a state of the reading to an entry and the next state, a word that is skipped, the final
+// word, or a refusal.
 use fdt_bytes::read_u32;
 use fdt_bytes::round_up;
 use fdt_format::Areas;

@@ -1,11 +1,12 @@
--- A reader's walk stops exactly at a state that is reached and whose token is wrong.
+-- A reader's walk stops exactly at a state that is reached and whose token is wrong, so never at a word 4.
 use mathlib.Core.Logic.{_⊎_, inl, inr, _↔_}
 use mathlib.Core.Path.{_≡_, refl, sym, ap, subst, _∙_}
 use mathlib.Core.List.{List}
-use Prim.Native.Nat.{ℕ, zero, suc, _-_, _<_}
+use Prim.Native.Nat.{ℕ, zero, suc, _+_, _-_, _≤_, _<_}
 use native.Mathlib.Omega.{arith}
 use borrow.Author.Tests.{ltb-true, ltb-false, lt-ltb, le-ltb}
 use lib.Dec.{ltb}
+use Rattle.fdt_bytes.specs.BigEndian.{wordAt}
 use Rattle.fdt_format.specs.declared.Areas.{Areas}
 use Rattle.fdt_format.specs.declared.Entry.{Entry}
 use Rattle.fdt_format.specs.declared.State.{State}
@@ -15,8 +16,10 @@ use Rattle.fdt_format.specs.declared.Unreadable.{Unreadable as Reason}
 use Rattle.fdt_format.specs.declared.Unreadable.the-variants.{Structure, NameOffset}
 use Rattle.fdt_format.specs.Moves.{Moved}
 use Rattle.fdt_format.specs.Step.{past, stepAt}
+use Rattle.fdt_format.specs.Tokens.{skipToken}
 use Rattle.fdt_format.specs.Walk.{walkStart}
-use Rattle.fdt_format.proofs.Steps.{by-test, Stepped, step-stepped, skip-moved}
+use Rattle.fdt_format.proofs.Steps.{by-test, Stepped, step-stepped, step-skip, skip-moved}
+use Rattle.fdt_format.proofs.Written.{SkipsNone, at-final, at-entry}
 use Rattle.fdt_walk.specs.declared.Fault.{Fault}
 use Rattle.fdt_walk.specs.declared.Refusal.{Refusal}
 use Rattle.fdt_walk.specs.declared.Refusal.the-variants.{Unreadable}
@@ -78,3 +81,35 @@ module _ (b : List ℕ) (a : Areas) where
     λ q. by-steps f _ (walkStart a) first (omega arith) q,
     λ m. reached-stops (m .reached) f (wrong-stops (m .wrong) ∙ ap (λ (n : ℕ). refusedAt n (f .refusal)) (sym (m .place))),
   )
+
+  -- ---- words 4
+
+  -- no fault is at a whole word 4
+  pub no-fault-at-4 : {f : Fault} → Meets b a f → f .place + 4 ≤ a .«structure_end» → wordAt b (f .place) ≡ skipToken → ⊥
+  no-fault-at-4 m h w = go (m .wrong)
+    where
+      skip : stepAt b a (m .state) ≡ step.Skip
+      skip = step-skip b a (m .state) (rw (← m .place) h) (rw (← m .place) w)
+
+      go : {r : Refusal} → Wrong b a (m .state) r → ⊥
+      go (structure e) = let z : _≡_ {A = ℕ} 0 1 = cc skip in omega arith
+      go (name-offset e) = let z : _≡_ {A = ℕ} 0 1 = cc skip in omega arith
+      go (depth e d) = let z : _≡_ {A = ℕ} 0 1 = cc skip in omega arith
+
+  -- after an entry a walk that skips none still does, and it is not at a word 4
+  entry-on : {s : State} {t : Entry} {s' : State} → SkipsNone b a s → stepAt b a s ≡ step.Entry t s' → SkipsNone b a s'
+  entry-on (at-final q) e = absurd (let z : _≡_ {A = ℕ} 0 1 = cc in omega arith)
+  entry-on {s' = s'} (at-entry {s' = u} q n) e = let same : u ≡ s' = cc in subst (SkipsNone b a) same n
+
+  not-skip : {s : State} → SkipsNone b a s → stepAt b a s ≡ step.Skip → ⊥
+  not-skip (at-final q) e = let z : _≡_ {A = ℕ} 0 1 = cc in omega arith
+  not-skip (at-entry q n) e = let z : _≡_ {A = ℕ} 0 1 = cc in omega arith
+
+  reached-none : {s : State} → SkipsNone b a (walkStart a) → Reached b a s → SkipsNone b a s
+  reached-none n first = n
+  reached-none n (next h e d) = entry-on (reached-none n h) e
+  reached-none n (skipped h e) = absurd (not-skip (reached-none n h) e)
+
+  -- if the walk skips none, no state that is reached is at a word 4
+  pub none-at-4 : SkipsNone b a (walkStart a) → {s : State} → Reached b a s → s .at + 4 ≤ a .«structure_end» → wordAt b (s .at) ≡ skipToken → ⊥
+  none-at-4 n {s} h le w = not-skip (reached-none n h) (step-skip b a s le w)

@@ -55,7 +55,7 @@ kind-past (opens name e d r) = opens name e d r
 kind-past (adds p e d r r') = adds p e d r r'
 kind-past (closes e d r) = closes e d r
 
--- a token after a word 4
+-- what a token after a word 4 does, it does from the word on
 goes-past : (b : List ℕ) (a : Areas) (s : State) (r : Token) → Goes b a (past s) r → Goes b a s r
 unfolding Goes
 goes-past b a s (token.Entry t s') n = record {

@@ -30,7 +30,7 @@ pub struct Fault {
     pub place: usize,
 }
 
-// The token at a state: an entry with the state after it, the final word, or a fault.
+// The next token from a state on: an entry with the state after it, the final word, or a fault.
 pub enum Token {
     Entry(Entry, State),
     Final,
