@@ -203,7 +203,7 @@ fn nested(depth: usize, body: Body) -> Body {
     (0..depth).fold(body, |body, _| body.begin(b""))
 }
 
-// Nodes inside each other, so many, around some tokens, with as many words 4 before each as there.
+// Nodes inside each other, so many, around some tokens, with as many words 4 before each as those tokens have.
 fn chain(depth: usize, inner: Body) -> Body {
     let begun = nested(depth, Body::new().nops(inner.nops));
     (0..depth).fold(begun.raw(&inner.bytes), |body, _| body.end())
@@ -324,7 +324,7 @@ fn endless(l: &mut Lines) {
     l.case("offset at the end", &with(&with(&longer, RESERVATIONS, 64), TOTAL, 64), 8);
 }
 
-// Tokens that may not come where they stand, and words that are none.
+// Tokens at places where they may not come, and words that are none.
 fn disorder(l: &mut Lines, b: impl Fn() -> Body, after: &str) {
     let open = || b().begin(b"");
     for (heading, body) in [
@@ -692,7 +692,7 @@ fn laid(r: &mut Rng, mut p: Parts) -> Parts {
     p
 }
 
-// The parts of a good blob: half of them have words 4.
+// The parts of a good blob: half of them may have words 4.
 fn good(r: &mut Rng) -> Parts {
     let (all, most) = (strings(r), r.of(&[0, 0, 0, 1, 2, 9]));
     let mut body = Body::padded(r.of(&[0, 0, 0, 0xff, 1]));

@@ -211,7 +211,7 @@ def structure_of(r, tops, places, skipped):
 
 
 def some_skipped(r, tops):
-    """How many words 4 come before each token of some top nodes: in half of the blobs none, and outside of all nodes few."""
+    """How many words 4 come before each token of some top nodes: in half of the blobs none inside nodes; outside of them few."""
     count = sum(1 for node in tops for _ in tokens(None, node, defaultdict(int)))
     skipped = [r.choice([0, 0, 1, 3]) for _ in range(count + 1)] if r.random() < 0.5 else [0] * (count + 1)
     skipped[0], skipped[-1] = r.choice([(0, 0)] * 12 + [(1, 0), (0, 1), (2, 3)])

@@ -10,7 +10,7 @@ import signal
 import subprocess
 import sys
 
-from common import Trouble
+from common import Trouble, run
 
 # Limits for each blob: seconds of time, and of processor time. On some blobs dtc 1.6.1 never ends.
 PATIENCE, PROCESSOR = 10, 1
@@ -202,10 +202,8 @@ def read_with_libfdt():
 
 def blanked(blob, parts, python):
     """A blob in which libfdt blanks some parts: a node by its path, or a property by its node's path, a space and its name."""
-    done = subprocess.run([python, os.path.abspath(__file__), *parts], input=blob.hex().encode("ascii"), stdout=subprocess.PIPE, stderr=subprocess.PIPE)
-    if done.returncode != 0:
-        raise Trouble(1, "libfdt does not blank: " + done.stderr.decode("utf-8", "replace").strip().split("\n")[-1])
-    return bytes.fromhex(done.stdout.decode("ascii"))
+    written = run([python, os.path.abspath(__file__), *parts], blob.hex().encode("ascii"), "libfdt")
+    return bytes.fromhex(written.decode("ascii"))
 
 
 def blank_with_libfdt(parts):

@@ -263,7 +263,7 @@ impl Walk<'_> {
         }
     }
 
-    // What a begin is that would lie so deep and has words 4 before it.
+    // The corner of a begin after words 4, by the depth of its node.
     fn begin_corner(&self, depth: u64) -> &'static str {
         match depth {
             1 if self.entries.is_empty() => "4-before-first-top",
