@@ -9,6 +9,7 @@ import shutil
 import signal
 import subprocess
 import sys
+import tempfile
 
 from common import Trouble, run
 
@@ -204,6 +205,18 @@ def blanked(blob, parts, python):
     """A blob in which libfdt blanks some parts: a node by its path, or a property by its node's path, a space and its name."""
     written = run([python, os.path.abspath(__file__), *parts], blob.hex().encode("ascii"), "libfdt")
     return bytes.fromhex(written.decode("ascii"))
+
+
+def deleted(blob, parts):
+    """A blob from which fdtput deletes some parts, given as to `blanked`."""
+    with tempfile.TemporaryDirectory() as room:
+        name = os.path.join(room, "blob")
+        with open(name, "wb") as file:
+            file.write(blob)
+        for part in parts:
+            run(["fdtput", "-d" if " " in part else "-r", name, *part.split()])
+        with open(name, "rb") as file:
+            return file.read()
 
 
 def blank_with_libfdt(parts):
