@@ -33,7 +33,7 @@ loop-again c =
     let read = c .before .before .before in
     let inv = read .before .loop .inv in
     let skip = takes-skip (read .step-at .ensures) (c .before .enum-told .given .1) in
-    (record { within = skip .0 .within; shallow = inv .0 .shallow }, λ r h. inv .1 r (skip .1 r h))
+    (record { within = skip .0 .within; shallow = omega (arith, inv .0 .shallow) }, λ r h. inv .1 r (skip .1 r h))
 
 returns : tie.Need-returns Inv-loop μ-loop
 returns c =
