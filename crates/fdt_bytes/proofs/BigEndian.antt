@@ -178,6 +178,15 @@ module _ (b : List ℕ) (at : ℕ) where
         byte 3 (lit< tt),
       )
 
+  module _ (h : at + 4 ≤ length b) (bytes : (i : ℕ) → getD b i 0 < 256) where
+    -- the last byte of a word
+    pub word-last : getD b (at + 3) 0 ≡ wordAt b at % 256
+    word-last = omega (arith, word-bytes h, bytes (at + 3))
+
+    -- the byte before it
+    pub word-third : getD b (at + 2) 0 ≡ wordAt b at / 256 % 256
+    word-third = omega (arith, word-bytes h, bytes (at + 2), bytes (at + 3))
+
   -- a number of 8 bytes is two words
   pub two-words : at + 8 ≤ length b → wideAt b at ≡ wordAt b at * 0x1_0000_0000 + wordAt b (at + 4)
   two-words h = read-in-two b at 4 4 h

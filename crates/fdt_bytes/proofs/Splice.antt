@@ -6,7 +6,7 @@ use native.Mathlib.Nat.{zero-add}
 use native.Mathlib.Numerals.{add-one}
 use native.Mathlib.Omega.{arith}
 use lib.ListN.{length, take, drop, set, getD, List·getD-append, length-append, length-take, length-drop, drop-of-length-le}
-use lib.Seq.{sets, sets-eq, set-split, take-all, take-take, take-append-le, take-at, drop-at, drop-drop, length-take-le, getD-append-add, getD-take, getD-drop}
+use lib.Seq.{sets, sets-eq, set-split, take-all, take-take, take-add, take-append-le, take-at, drop-at, drop-drop, length-take-le, getD-append-add, getD-take, getD-drop}
 use borrow.Rule.Slice.PartMut.{putMid}
 use Rattle.fdt_bytes.specs.Splice.{over, splice}
 
@@ -23,6 +23,10 @@ length-over bs xs h = simp (length-append, length-drop) (omega arith)
 pub length-splice : (at : ℕ) (bs xs : List ℕ) → at + length bs ≤ length xs → length (splice at bs xs) ≡ length xs
 unfolding splice over
 length-splice at bs xs h = simp (length-append, length-take, length-drop) (omega arith)
+
+-- what follows k elements of the first k + j
+pub drop-take : (k j : ℕ) (xs : List ℕ) → k ≤ length xs → drop k (take (k + j) xs) ≡ take j (drop k xs)
+drop-take k j xs h = ap (drop k) (take-add k j xs) ∙ drop-at (take k xs) (take j (drop k xs)) k (length-take-le k xs h)
 
 -- a splice that begins where another ends
 pub splice-splice : (at to : ℕ) (bs cs xs : List ℕ) → at + length bs ≡ to → to ≤ length xs → splice to cs (splice at bs xs) ≡ splice at (bs ++ cs) xs

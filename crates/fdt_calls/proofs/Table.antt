@@ -1,21 +1,19 @@
 -- The refusal table: a call's answer is the first of its rows that holds, exactly, and no row has 3 or 4.
 use mathlib.Core.Path.{_≡_, refl, sym, subst, _∙_}
-use mathlib.Core.Bool.{Bool, true, false, not, cond, _&&_, _||_, true≢false}
-use mathlib.Core.List.{List, [], _∷_}
+use mathlib.Core.Bool.{Bool, true, false, not, cond, _||_}
 use Prim.Native.Nat.{ℕ}
-use borrow.Author.Tests.{not-true}
 use lib.Dec.{eqb}
 use lib.ListN.{length}
 use Rattle.fdt_record.specs.declared.Answer.{Answer}
 use Rattle.fdt_record.specs.declared.Outcome.{Outcome}
 use Rattle.fdt_record.specs.Answers.{numberOf, accepts}
-use Rattle.fdt_record.specs.Rows.{Row, _⇒_, first}
+use Rattle.fdt_record.specs.Rows.{first}
 use Rattle.fdt_record.specs.Tests.{aloneRows, blobRows, stringsRows}
 use Rattle.fdt_record.proofs.Rows.{allAnswers, first-answers, Refusals, Exactly, exactly, first-append}
 use Rattle.fdt_opening.specs.Opening.{openingRows, openingAnswer}
 use Rattle.fdt_nodes.specs.Begin.{beginRows, beginAnswer}
 use Rattle.fdt_nodes.specs.End.{endRows, endAnswer}
-use Rattle.fdt_properties.specs.Property.{stateRows, nameRows, roomRows, propertyRows, propertyAnswer, property}
+use Rattle.fdt_properties.specs.Property.{stateRows, nameRows, placeRows, propertyRows, propertyAnswer, property}
 use Rattle.fdt_phandles.specs.Phandle.{phandleName, phandleValue, recordRows, recordAnswer, recorded, phandle}
 use Rattle.fdt_finish.specs.Boot.{bootAnswer}
 use Rattle.fdt_finish.specs.Finish.{finishRows, finishAnswer}
@@ -30,7 +28,7 @@ Neither34 a = neither a ≡ true
 
 -- every answer of a call's rows is a refusal, and none has number 3 or 4
 each : (c : Request) (s : Desk) → Refusals (rows c s) × (allAnswers neither (rows c s) ≡ true)
-unfolding rows allAnswers Refusals accepts aloneRows blobRows stringsRows openingRows beginRows endRows stateRows nameRows roomRows propertyRows recordRows finishRows
+unfolding rows allAnswers Refusals accepts aloneRows blobRows stringsRows openingRows beginRows endRows stateRows nameRows placeRows propertyRows recordRows finishRows
 each (to-open numbers) s = (refl, refl)
 each (to-boot n) s = (refl, refl)
 each (to-begin name) s = (refl, refl)

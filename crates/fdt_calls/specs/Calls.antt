@@ -118,7 +118,7 @@ answer (to-mark value) s = of-phandle.phandle (s .writer) (s .blob) (s .strings)
 answer to-finish s = of-finish.finishAnswer (s .writer) (length (s .blob)) (s .strings)
 answer to-show s = Done
 
--- the tests of a call in document 01's order, each with the answer that it gets. A phandle call makes its own tests, and then, with
+-- the tests of a call in the order of documents 01 and 02, each with the answer that it gets. A phandle call makes its own tests, and then, with
 -- its value recorded, those of a property. Showing makes none.
 unfoldable pub rows : Request → Desk → List Row
 rows (to-open numbers) s = of-opening.openingRows (length (s .blob)) (length (s .strings)) (length (s .phandles)) numbers

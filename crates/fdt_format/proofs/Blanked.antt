@@ -39,7 +39,7 @@ plain-out [] [] after p = p
 plain-out [] (e ∷ out) after p = plain-out [] out after (p .1)
 plain-out (e ∷ before) out after p = (p .0, plain-out before out after (p .1))
 
-has-out : (names : List (List ℕ)) (before out after : List Event) → AllHas names (before ++ (out ++ after)) → AllHas names (before ++ after)
+pub has-out : (names : List (List ℕ)) (before out after : List Event) → AllHas names (before ++ (out ++ after)) → AllHas names (before ++ after)
 unfolding AllHas
 has-out names [] [] after h = h
 has-out names [] (begins name ∷ out) after h = has-out names [] out after h

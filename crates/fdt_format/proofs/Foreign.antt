@@ -10,4 +10,4 @@ use Rattle.fdt_format.specs.Foreign.{firstToken, AllRead, justNodes, alt
 
 pub foreign-read : AllRead foreign
 unfolding bigEndian cellBytes fromBigEndian numberAt padding roundUp inFront meaning whole nodesOf zeroFrom beginAt wholeAt propertyAt endAt finalAt stepAt steps walk walkStart areasOf goodWords goodAreas goodHeader withReservation reservationsAt untilZero nameAt eventAt walkNodes described readReservations readNodes reading firstToken AllRead justNodes altered only stringA nested nest ninetyTwo tails tailsSay overlap fours foreign
-foreign-read = (refl, (refl, (refl, (refl, (refl, (refl, (refl, (refl, (refl, (refl, (refl, (refl, (refl, (refl, (refl, (refl, (refl, (refl, (refl, (refl, (refl, (refl, (refl, (refl, (refl, refl, (refl, refl, (refl, refl, (refl, refl, (refl, refl, (refl, refl, (refl, refl, (refl, refl, (refl, refl, (refl, refl, (refl, refl, (refl, refl, (refl, refl, (refl, refl, (refl, refl, (refl, refl, (refl, (refl, (refl, (refl, (refl, (refl, (refl, (refl, (refl, (refl, tt))))))))))))))))))))))))))))))))))))))))))))))))))
+foreign-read = (refl, (refl, (refl, (refl, (refl, (refl, (refl, (refl, (refl, (refl, (refl, (refl, (refl, (refl, (refl, (refl, (refl, (refl, (refl, (refl, (refl, (refl, (refl, (refl, (refl, (refl, refl, (refl, refl, (refl, refl, (refl, refl, (refl, refl, (refl, refl, (refl, refl, (refl, refl, (refl, refl, (refl, refl, (refl, refl, (refl, refl, (refl, refl, (refl, refl, (refl, refl, (refl, refl, (refl, (refl, (refl, (refl, (refl, (refl, (refl, (refl, (refl, (refl, tt)))))))))))))))))))))))))))))))))))))))))))))))))))

@@ -1,8 +1,10 @@
 pub mod Around
 pub mod Blanked
+pub mod Distinct
 pub mod Example
 pub mod Foreign
 pub mod HeaderRead
+pub mod LookBack
 pub mod Named
 pub mod Nested
 pub mod Nodes

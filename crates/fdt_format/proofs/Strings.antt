@@ -11,6 +11,7 @@ use Rattle.fdt_strings.specs.declared.Found.the-variants.{At, Nothing}
 use Rattle.fdt_strings.specs.Entries.{foundValues, entries, firstFrom, findString, same, joined, NoZero}
 use Rattle.fdt_strings.proofs.Entries.{eq-same, entries-joined, first-after, found-stands, Stands, no-entry, next-entry, PlainNames as PlainNames}
 use Rattle.fdt_format.specs.Description.{_≔_}
+use Rattle.fdt_format.specs.Distinct.{Distinct}
 use Rattle.fdt_format.specs.Events.{Event, begins, has, ends}
 use Rattle.fdt_format.specs.Blob.{orAtEnd, withName, namesFrom, namesOf, foundAt, offsetOf, Plain, AllPlain}
 
@@ -134,11 +135,6 @@ names-entries es a = entries-joined (names-plain es a no-entry)
 
 -- ---- each name once
 
--- no name occurs twice
-unfoldable pub Distinct : List (List ℕ) → Type 0
-Distinct [] = Unit {0}
-Distinct (name ∷ names) = (List·Memᴰ name names → ⊥) × Distinct names
-
 -- a name that occurs among names is found
 pub mem-found : {name : List ℕ} {names : List (List ℕ)} (k : ℕ) → List·Memᴰ name names → (i : ℕ) × (firstFrom k names name ≡ At i)
 unfolding firstFrom
@@ -149,7 +145,7 @@ mem-found {name} k (List·Memᴰ·tail {x = e} m) = go (same e name) (mem-found 
     go true f = (k, refl)
     go false f = f
 
-distinct-snoc : (names : List (List ℕ)) (name : List ℕ) → Distinct names → (List·Memᴰ name names → ⊥) → Distinct (names ++ (name ∷ []))
+pub distinct-snoc : (names : List (List ℕ)) (name : List ℕ) → Distinct names → (List·Memᴰ name names → ⊥) → Distinct (names ++ (name ∷ []))
 unfolding Distinct
 distinct-snoc [] name d n = (λ m. List·Memᴰ·not-nil m, tt)
 distinct-snoc (e ∷ es) name d n = (λ m. go (List·Memᴰ·append-cases es m), distinct-snoc es name (d .1) (λ m. n (List·Memᴰ·tail m)))

@@ -127,6 +127,8 @@ foreign =
     ∷ (only (1 ∷ 0 ∷ 3 ∷ 0 ∷ 0 ∷ 1 ∷ 0 ∷ 2 ∷ 2 ∷ 9 ∷ []) stringA reads justNodes (node [] (((97 ∷ []) ≔ []) ∷ []) (node [] [] no-more no-more) no-more))
     ∷ (fours reads justNodes (node [] (((97 ∷ []) ≔ (0 ∷ 0 ∷ 0 ∷ 4 ∷ [])) ∷ []) (node (98 ∷ []) [] no-more no-more) (node [] [] no-more no-more)))
     ∷ (only (4 ∷ 9 ∷ []) [] reads justNodes no-more)
+    -- a name twice in a node, which our writer refuses: both properties are read
+    ∷ (only (1 ∷ 0 ∷ 3 ∷ 0 ∷ 0 ∷ 3 ∷ 4 ∷ 0 ∷ 1 ∷ 2 ∷ 9 ∷ []) stringA reads justNodes (node [] (((97 ∷ []) ≔ []) ∷ ((97 ∷ []) ≔ (0 ∷ 0 ∷ 0 ∷ 1 ∷ [])) ∷ []) no-more no-more))
     -- at least 40 bytes (a shorter blob would not be read anyway: these words leave no room for an all-zero pair)
     ∷ (cellBytes 4 (0xd00dfeed ∷ 0x1c ∷ 0 ∷ 0 ∷ 0 ∷ 0x11 ∷ 0x10 ∷ []) good-words false)
     -- magic, total size, versions

@@ -1,8 +1,10 @@
 pub mod Blanks
 pub mod Blob
 pub mod Description
+pub mod Distinct
 pub mod Events
 pub mod Foreign
+pub mod LookBack
 pub mod Moves
 pub mod Reading
 pub mod Refusals

@@ -13,16 +13,19 @@ use Rattle.fdt_record.specs.declared.Answer.{Answer}
 use Rattle.fdt_record.specs.declared.Answer.the-variants.{NodeDepthTooLarge, InvalidString, InvalidNodeName, BlobRoom}
 use Rattle.fdt_record.specs.declared.Record.{Record}
 use Rattle.fdt_record.specs.Answers.{upon}
-use Rattle.fdt_record.specs.Fields.{withUsedBlob, withDepth, withEnded}
+use Rattle.fdt_record.specs.Fields.{withUsedBlob, withStart, withDepth, withEnded}
 use Rattle.fdt_record.specs.Limits.{mostDepth}
 use Rattle.fdt_record.specs.Misfits.{overfull}
 use Rattle.fdt_record.specs.Rows.{Row, _⇒_, first}
 use Rattle.fdt_record.specs.Tests.{blobRows}
 use Rattle.fdt_nodes.specs.declared.Begun.{Begun}
 
--- the record after an accepted begin: its bytes are used, the depth is one more, no node was ended last
+-- the record after an accepted begin: its bytes are used, the node's properties start after them (document 02, request 4/14), the depth
+-- is one more, no node was ended last
 unfoldable pub begunRecord : Record → List ℕ → Record
-begunRecord w name = withEnded false (withDepth (w .«node_depth» + 1) (withUsedBlob (w .«blob_used» + length (beginBytes name)) w))
+begunRecord w name =
+    let used : ℕ = w .«blob_used» + length (beginBytes name) in
+    withEnded false (withDepth (w .«node_depth» + 1) (withStart used (withUsedBlob used w)))
 
 -- the tests, in their order, of a call that is lent a blob of this length
 unfoldable pub beginRows : Record → ℕ → List ℕ → List Row

@@ -17,7 +17,7 @@ use Rattle.fdt_record.specs.Misfits.{overfull}
 use Rattle.fdt_record.specs.Rows.{Row, _⇒_, first}
 use Rattle.fdt_record.specs.Tests.{blobRows}
 
--- the record after an accepted end: its bytes are used, the depth is one less, a node was ended last
+-- the record after an accepted end: its bytes are used, the depth is one less, a node was ended last; where properties start is kept
 unfoldable pub endedRecord : Record → Record
 endedRecord w = withEnded true (withDepth (w .«node_depth» - 1) (withUsedBlob (w .«blob_used» + length endBytes) w))
 

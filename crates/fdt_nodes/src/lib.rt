@@ -39,6 +39,7 @@ fn after_begin(w: Record, name: &[u8]) -> Record
 {
     let mut after = w;
     after.blob_used = w.blob_used + begin_size(name);
+    after.node_start = after.blob_used;
     after.node_depth = w.node_depth + 1;
     after.node_ended = false;
     after

@@ -27,7 +27,8 @@ count numbers = length numbers / 2
 unfoldable pub someInvalid : List ℕ → Bool
 someInvalid numbers = someBelow (count numbers) (λ k. invalid (start numbers k) (size numbers k))
 
--- an accepted opening's record: n, the usable lengths and the used blob length 56 + 16n; all else 0, no node ended, not finished
+-- an accepted opening's record: n, the usable lengths, and 56 + 16n as the used blob length and as the place where properties start
+-- (document 02, request 4/14); all else 0, no node ended, not finished
 unfoldable pub openedRecord : ℕ → ℕ → ℕ → List ℕ → Record
 openedRecord blobLength stringsLength phandlesLength numbers = record {
   «blob_room» = usable blobCeiling blobLength;
@@ -38,6 +39,7 @@ openedRecord blobLength stringsLength phandlesLength numbers = record {
   «phandles_used» = 0;
   reservations = count numbers;
   «node_depth» = 0;
+  «node_start» = structureStart (count numbers);
   «boot_cpuid_phys» = 0;
   «node_ended» = false;
   finished = false;
@@ -68,6 +70,7 @@ closedRecord = record {
   «phandles_used» = 0;
   reservations = 0;
   «node_depth» = 0;
+  «node_start» = 0;
   «boot_cpuid_phys» = 0;
   «node_ended» = false;
   finished = true;

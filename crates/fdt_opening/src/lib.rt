@@ -34,15 +34,17 @@ fn opened(blob: usize, strings: usize, phandles: usize, mem_reservations: &[u64]
     ensures { λ r. ⌜ r ≡ openedRecord blob strings phandles (now («mem_reservations» .entry)) ⌝ }
 {
     let n = mem_reservations.len() / 2;
+    let start = fdt_header::structure_start(n);
     Record {
         blob_room: fdt_record::usable_length(fdt_record::BLOB_CEILING, blob),
-        blob_used: fdt_header::structure_start(n),
+        blob_used: start,
         strings_room: fdt_record::usable_length(fdt_record::STRINGS_CEILING, strings),
         strings_used: 0,
         phandles_room: fdt_record::usable_length(fdt_record::PHANDLES_CEILING, phandles),
         phandles_used: 0,
         reservations: n,
         node_depth: 0,
+        node_start: start,
         boot_cpuid_phys: 0,
         node_ended: false,
         finished: false,
@@ -98,6 +100,7 @@ fn closed() -> Record
         phandles_used: 0,
         reservations: 0,
         node_depth: 0,
+        node_start: 0,
         boot_cpuid_phys: 0,
         node_ended: false,
         finished: true,

@@ -1,11 +1,12 @@
 -- What is promised about the writer. Read this file first: it only states the promises, and the proofs are in the files beside it.
 -- The calls, their tests, answers and effects are defined in fdt_calls, specs/Calls.antt; a run in specs/Run.antt.
 use mathlib.Core.Path.{_≡_}
-use mathlib.Core.Bool.{true, false}
-use mathlib.Core.List.{List, [], _++_}
+use mathlib.Core.Bool.{true, false, _&&_, _||_}
+use mathlib.Core.List.{List, [], _++_, List·Memᴰ}
 use mathlib.Core.Logic.{_↔_}
 use mathlib.Core.Option.{some}
 use Prim.Native.Nat.{ℕ, _+_, _/_, _≤_, _<_, _^_}
+use lib.Dec.{eqb}
 use lib.ListN.{length}
 use Rattle.fdt_bytes.specs.BigEndian.{wordAt, cellBytes}
 use Rattle.fdt_bytes.specs.Splice.{splice}
@@ -16,19 +17,23 @@ use Rattle.fdt_format.specs.Blanks.{Piece, eventsOf, spacedBlob, wordsFour}
 use Rattle.fdt_format.specs.Blob.{namesOf, eventsSize, blobOf, WellFormed}
 use Rattle.fdt_format.specs.declared.Areas.{Areas}
 use Rattle.fdt_format.specs.declared.State.{State}
-use Rattle.fdt_format.specs.Description.{Nodes, Description}
+use Rattle.fdt_format.specs.Description.{Property, _≔_, Nodes, Description}
+use Rattle.fdt_format.specs.Distinct.{Distinct, PropertiesOf, DistinctNames}
 use Rattle.fdt_format.specs.Events.{Event, events}
 use Rattle.fdt_format.specs.Foreign.{AllRead, foreign}
 use Rattle.fdt_header.specs.Header.{structureStart}
 use Rattle.fdt_format.specs.Reading.{areasOf, reading}
-use Rattle.fdt_format.specs.Step.{past}
-use Rattle.fdt_format.specs.Tokens.{skipToken}
+use Rattle.fdt_format.specs.LookBack.{lookBack}
+use Rattle.fdt_format.specs.Step.{wholeAt, past}
+use Rattle.fdt_format.specs.Tokens.{propertySize, skipToken}
 use Rattle.fdt_format.specs.Walk.{walk, walkStart, TokensAt}
 use Rattle.fdt_format.proofs.Blanked.{read-spaced, read-overwritten}
+use Rattle.fdt_format.proofs.Distinct.{one-value}
 use Rattle.fdt_format.proofs.Foreign.{foreign-read}
+use Rattle.fdt_format.proofs.LookBack.{look-step}
 use Rattle.fdt_format.proofs.ReadBack.{read-blob}
 use Rattle.fdt_format.proofs.Nested.{tokens-at}
-use Rattle.fdt_format.proofs.Strings.{AllHas, Distinct, names-once}
+use Rattle.fdt_format.proofs.Strings.{AllHas, names-once}
 use Rattle.fdt_format.proofs.Walks.{walk-skip}
 use Rattle.fdt_walk.specs.declared.Fault.{Fault}
 use Rattle.fdt_walk.specs.Reached.{Reached, Meets}
@@ -39,29 +44,35 @@ use Rattle.fdt_reader.specs.declared.ReadAnswer.{ReadAnswer}
 use Rattle.fdt_reader.specs.Numbers.{Tells}
 use Rattle.fdt_reader.specs.Reader.{Read}
 use Rattle.fdt_record.specs.declared.Answer.{Answer}
-use Rattle.fdt_record.specs.declared.Answer.the-variants.{Done, Misfit}
+use Rattle.fdt_record.specs.declared.Answer.the-variants.{Done, Misfit, DuplicateProperty}
 use Rattle.fdt_record.specs.Answers.{accepts}
 use Rattle.fdt_record.specs.Rows.{first}
 use Rattle.fdt_record.proofs.Rows.{NoneHolds, Given}
 use Rattle.fdt_opening.specs.Opening.{count}
-use Rattle.fdt_phandles.specs.Phandle.{phandleName}
-use Rattle.fdt_calls.specs.Calls.{Call, property, property-string, property-u32, property-array-u32, property-array-u64, property-phandle, asks, to-have, Desk, answer, rows, after, markAnswer, marked, unaltered}
+use Rattle.fdt_properties.specs.Property.{placeOf, isRepeated}
+use Rattle.fdt_phandles.specs.Phandle.{phandleName, phandleValue}
+use Rattle.fdt_calls.specs.Calls.{Call, property, property-string, property-u32, property-array-u32, property-array-u64, property-phandle, asks, to-have, to-mark, Desk, answer, rows, after, markAnswer, marked, unaltered}
 use Rattle.fdt_calls.specs.Called.{Called, shownPart}
 use Rattle.fdt_calls.proofs.OneOutcome.{one-called}
 use Rattle.fdt_calls.proofs.Refused.{refused-after}
 use Rattle.fdt_calls.proofs.Table.{Neither34, first-row, answers-exactly, never-given}
 use Rattle.fdt_promises.specs.Effects.{own, ownEntry, Changed, Alike}
-use Rattle.fdt_promises.specs.Run.{tells, reservationsOf, Holds, FitDesk, Misgiven, Run, desk, history, eventsIn, bootIn, marksIn, description, Finishes, blob, OneMore}
+use Rattle.fdt_promises.specs.Run.{tells, reservationsOf, endedOf, Holds, FitDesk, Misgiven, Run, desk, history, eventsIn, bootIn, marksIn, description, Finishes, blob, Describes, OneMore}
+use Rattle.fdt_promises.specs.OpenNode.{openIn, openNames, rowsBefore20}
+use Rattle.fdt_promises.specs.Cases20.{cases20}
 use Rattle.fdt_promises.specs.ReadBack.{ReadBack}
 use Rattle.fdt_promises.specs.Examples.{emptyWords, nodeWords}
 use Rattle.fdt_promises.specs.Starred.{allHold, starred}
+use Rattle.fdt_promises.proofs.OpenNode.{left-open}
 use Rattle.fdt_promises.proofs.OwnBytes.{recorded-own, only-own}
 use Rattle.fdt_promises.proofs.PastUsable.{past-usable, shown-usable}
-use Rattle.fdt_promises.proofs.Described.{run-holds, run-fits, run-given, run-shown, run-length, run-read, same-runs, same-history}
+use Rattle.fdt_promises.proofs.Described.{run-holds, run-fits, run-given, run-repeated, run-refused, run-marked, run-shown, run-distinct, run-length, run-read, same-runs, same-history}
 use Rattle.fdt_promises.proofs.Examples.{empty-run, node-run, examples-shown}
 use Rattle.fdt_promises.proofs.Idle.{same-told, same-kinds, kinds-as-bytes, same-phandle, one-more}
 use Rattle.fdt_promises.proofs.ReadBack.{none-written, read-back}
 use Rattle.fdt_promises.proofs.Starred.{starred-hold}
+use Rattle.fdt_promises.proofs.Refused20.{recorded-at-20 as past-20}
+use Rattle.fdt_promises.proofs.Cases20.{cases-hold}
 
 -- ---- demand 1: any call with any arguments, over any record and buffers of any size
 
@@ -70,7 +81,7 @@ use Rattle.fdt_promises.proofs.Starred.{starred-hold}
 pub one-outcome : {c : Call} {s : Desk} {a b : Answer} {t u : Desk} → Called c s a t → Called c s b u → (a ≡ b) × (t ≡ u)
 one-outcome = one-called
 
--- What a call cannot serve gets the refusal of document 01's table: the answer is the first of the call's rows that holds.
+-- What a call cannot serve gets the refusal of document 01's table, or 20 of document 02: the answer is the first of the call's rows that holds.
 pub answer-by-table : (c : Call) (s : Desk) → answer (asks c) s ≡ first (rows (asks c) s)
 answer-by-table c s = first-row (asks c) s
 
@@ -127,8 +138,9 @@ each-name-once r = names-once (eventsIn r)
 
 -- ---- demands 2 and 3: the finished blob
 
--- After an accepted finish, the shown blob is exactly the bytes of what the run describes.
-pub blob-is-description : (r : Run) → Finishes r → (d : Description) × (description r ≡ some d) × (blob r ≡ blobOf d)
+-- After an accepted finish, the shown blob is exactly the bytes of what the run describes, in which no node has two properties of one
+-- name.
+pub blob-is-description : (r : Run) → Finishes r → (d : Description) × Describes r d × (blob r ≡ blobOf d)
 blob-is-description = run-shown
 
 -- Its length is 56, plus 16 for each reservation, plus the sizes of the accepted calls, plus 4 for the last word, plus the strings.
@@ -149,8 +161,9 @@ reading-of-any = read-blob
 pub finished-is-read : (r : Run) → Finishes r → {before after : List ℕ} {a : ReadAnswer} → Read (blob r) before after a → ReadBack r before after a
 finished-is-read = read-back
 
--- Demand 3. Two finished runs show the same bytes exactly when they describe the same thing.
-pub demand-3 : (r q : Run) → Finishes r → Finishes q → (blob r ≡ blob q) ↔ (description r ≡ description q)
+-- Demand 3. Two finished runs show the same bytes exactly when they describe the same thing, in which no node has two properties of one
+-- name.
+pub demand-3 : (r q : Run) → Finishes r → Finishes q → (blob r ≡ blob q) ↔ ((d : Description) × Describes r d × Describes q d)
 demand-3 = same-runs
 
 -- The description depends only on the reservations, the boot number and the events that the accepted calls add: the sizes of the
@@ -180,6 +193,51 @@ phandle-as-u32 = same-phandle
 -- One more call makes no difference, if it shows the blob, or if it is refused and records no phandle.
 pub idle-call : (r q : Run) → OneMore r q → description q ≡ description r
 idle-call = one-more
+
+-- ---- no property twice in a node (document 02, request 4/14)
+
+-- What the open node has, by `openIn`: nodes that are begun and ended leave it as it was.
+pub nodes-leave-open : (es : List Event) (f : Nodes) → openIn (es ++ events f []) ≡ openIn es
+nodes-leave-open = left-open
+
+-- In every run, where no node was ended last, row 20 holds exactly when the open node already has a property of the name.
+pub row-20 : (r : Run) → desk r .writer .finished ≡ false → endedOf (eventsIn r) ≡ false → (name : List ℕ)
+    → (isRepeated (desk r .writer) (desk r .blob) (placeOf (desk r .writer) (desk r .strings) name) ≡ true) ↔ List·Memᴰ name (openNames (eventsIn r))
+row-20 = run-repeated
+
+-- So a property is refused 20 exactly when no test before 20 refuses it and the open node already has a property of its name.
+pub refused-20 : (r : Run) → desk r .writer .finished ≡ false → (name : List ℕ) (v : Value)
+    → (answer (to-have name v) (desk r) ≡ DuplicateProperty) ↔ (NoneHolds (rowsBefore20 name v (desk r)) × List·Memᴰ name (openNames (eventsIn r)))
+refused-20 = run-refused
+
+-- The same of a phandle that passed its own tests.
+pub phandle-refused-20 : (r : Run) → desk r .writer .finished ≡ false → (value : ℕ)
+    → (answer (to-mark value) (desk r) ≡ DuplicateProperty)
+    ↔ ((markAnswer value (desk r) ≡ Done) × NoneHolds (rowsBefore20 phandleName (phandleValue value) (marked (desk r) value)) × List·Memᴰ phandleName (openNames (eventsIn r)))
+phandle-refused-20 = run-marked
+
+-- Its value is then recorded, over any record and buffers.
+pub recorded-at-20 : (s : Desk) (value : ℕ) → answer (asks (property-phandle value)) s ≡ DuplicateProperty → after (asks (property-phandle value)) s ≡ marked s value
+unfolding asks
+recorded-at-20 s value = past-20 value s
+
+-- Over any bytes, the look back is its first property and the look back after it: the bound in its definition decides nothing.
+pub look-back-by-steps : (b : List ℕ) (end offset at : ℕ)
+    → lookBack b end offset at ≡ (wholeAt b end at && (eqb (wordAt b (at + 8)) offset || lookBack b end offset (at + propertySize (wordAt b (at + 4)))))
+look-back-by-steps = look-step
+
+-- In what a finished run describes, no node has two properties of one name.
+pub distinct-names : (r : Run) → Finishes r → {d : Description} → description r ≡ some d → DistinctNames (d .nodes)
+distinct-names = run-distinct
+
+-- So two programs that look for a name in a node of its blob cannot find different values.
+pub one-value-each : (r : Run) → Finishes r → {d : Description} → description r ≡ some d → {ps : List Property} → PropertiesOf ps (d .nodes)
+    → {name v u : List ℕ} → List·Memᴰ (name ≔ v) ps → List·Memᴰ (name ≔ u) ps → v ≡ u
+one-value-each r f e p m k = one-value (run-distinct r f e) p m k
+
+-- The request's cases, in one table: what each call of a list answers.
+pub cases-of-20 : allHold cases20 ≡ true
+cases-of-20 = cases-hold
 
 -- ---- words 4, which describe nothing (document 02, request 3/14)
 

@@ -22,7 +22,7 @@ use Rattle.fdt_record.specs.Tests.{aloneRows, blobRows, stringsRows}
 use Rattle.fdt_opening.specs.Opening.{someInvalid, openingRows, openingAnswer, openedRecord, closedRecord, openingBytes, opening, openingBlob}
 use Rattle.fdt_nodes.specs.Begin.{beginRows, beginAnswer, begunRecord, begin, beginBlob}
 use Rattle.fdt_nodes.specs.End.{endRows, endAnswer, endedRecord, end, endBlob}
-use Rattle.fdt_properties.specs.Property.{placeOf, isFull, placeOffset, added, stored, written, propertyRecord, stateRows, nameRows, roomRows, propertyRows, propertyAnswer, property, propertyBlob, propertyStrings}
+use Rattle.fdt_properties.specs.Property.{placeOf, isKnown, isFull, placeOffset, isRepeated, added, stored, written, propertyRecord, stateRows, nameRows, placeRows, propertyRows, propertyAnswer, property, propertyBlob, propertyStrings}
 use Rattle.fdt_finish.specs.Finish.{usedStrings, finishRows, finishAnswer, finishedRecord, finishedBlob, finish, finishBlob}
 use Rattle.fdt_finish.specs.Shown.{showable, shown}
 use Rattle.fdt_calls.specs.Calls.{asks, to-open, effect, answer, after}
@@ -43,5 +43,5 @@ node-run = record { before = lentDesk; numbers = []; calls = nodeCalls; opened =
 
 -- both finish, and show their blob
 pub examples-shown : Finishes empty-run × (blob empty-run ≡ cellBytes 4 emptyWords) × Finishes node-run × (blob node-run ≡ cellBytes 4 nodeWords)
-unfolding empty-run node-run Finishes blob desk opened-desk runs allAsk asks answer after lentDesk emptyCalls emptyWords nodeCalls nodeWords dirty bigEndian cellBytes padding roundUp zeros padded over splice all inTwo matches is oneOf letter digit nameByte nodeByte propertyByte unitAddress nodeName propertyName hasZero invalid start size someBelow share overlapping entry withByte entries same firstFrom findString newName orElse interned numberOf valuesOf beginBytes propertyBytes endBytes finalBytes reservationBytes wordsFrom headerWords headerBytes valueBytes misfitValue zeroValue accepts usable misfitRecord misfitRoom offStructure misfitBlob misfitStrings overfull first aloneRows blobRows stringsRows someInvalid openingRows openingAnswer openedRecord closedRecord openingBytes opening openingBlob beginRows beginAnswer begunRecord begin beginBlob endRows endAnswer endedRecord end endBlob placeOf isFull placeOffset added stored written propertyRecord stateRows nameRows roomRows propertyRows propertyAnswer property propertyBlob propertyStrings usedStrings finishRows finishAnswer finishedRecord finishedBlob finish finishBlob showable shown
+unfolding empty-run node-run Finishes blob desk opened-desk runs allAsk asks answer after lentDesk emptyCalls emptyWords nodeCalls nodeWords dirty bigEndian cellBytes padding roundUp zeros padded over splice all inTwo matches is oneOf letter digit nameByte nodeByte propertyByte unitAddress nodeName propertyName hasZero invalid start size someBelow share overlapping entry withByte entries same firstFrom findString newName orElse interned numberOf valuesOf beginBytes propertyBytes endBytes finalBytes reservationBytes wordsFrom headerWords headerBytes valueBytes misfitValue zeroValue accepts usable misfitRecord misfitRoom offStructure misfitBlob misfitStrings overfull first aloneRows blobRows stringsRows someInvalid openingRows openingAnswer openedRecord closedRecord openingBytes opening openingBlob beginRows beginAnswer begunRecord begin beginBlob endRows endAnswer endedRecord end endBlob placeOf isKnown isFull placeOffset added stored written propertyRecord stateRows nameRows isRepeated placeRows propertyRows propertyAnswer property propertyBlob propertyStrings usedStrings finishRows finishAnswer finishedRecord finishedBlob finish finishBlob showable shown
 examples-shown = (refl, refl, refl, refl)

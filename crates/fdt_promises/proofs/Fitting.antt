@@ -3,7 +3,7 @@ use mathlib.Core.Path.{_≡_, refl, sym, ap, subst, _∙_}
 use mathlib.Core.Bool.{Bool, true, false, not, _&&_, true≢false}
 use mathlib.Core.List.{List, [], _∷_}
 use mathlib.Core.Logic.{_↔_, _⊎_, inl, inr}
-use Prim.Native.Nat.{ℕ, zero, suc, _+_, _-_, _%_, _≤_, _<_}
+use Prim.Native.Nat.{ℕ, zero, suc, _+_, _-_, _%_, _≤_}
 use native.Mathlib.Omega.{arith}
 use borrow.Author.Tests.{eq-eqb, ne-eqb, le-ltb}
 use lib.Dec.{eqb}
@@ -29,14 +29,16 @@ use Rattle.fdt_record.proofs.Rows.{skip, hit}
 use Rattle.fdt_opening.specs.Opening.{openingRows, openingAnswer}
 use Rattle.fdt_nodes.specs.Begin.{beginRows, beginAnswer}
 use Rattle.fdt_nodes.specs.End.{endRows, endAnswer}
-use Rattle.fdt_properties.specs.Property.{stateRows, nameRows, roomRows, propertyRows, propertyAnswer}
+use Rattle.fdt_properties.specs.Property.{stateRows, nameRows, placeRows, propertyRows, propertyAnswer}
 use Rattle.fdt_phandles.specs.Phandle.{phandleName, phandleValue, recordRows, recordAnswer, phandle}
 use Rattle.fdt_finish.specs.Boot.{bootAnswer}
 use Rattle.fdt_finish.specs.Finish.{finishRows, finishAnswer}
 use Rattle.fdt_calls.specs.Calls.{Call, new, new-with-mem-reserv, set-boot-cpuid-phys, begin-node, end-node, property, property-null, property-string, property-string-list, property-u32, property-u64, property-array-u32, property-array-u64, property-phandle, finish, show, asks, to-open, to-boot, to-begin, to-end, to-have, to-mark, to-finish, Desk, answer, markAnswer}
 use Rattle.fdt_calls.proofs.Refused.{marked-answer}
+use Rattle.fdt_promises.specs.OpenNode.{sinceBegin}
 use Rattle.fdt_promises.specs.Run.{Filled, FitDesk, Misgiven, odd-count, other-sum}
 use Rattle.fdt_promises.proofs.Held.{Open, marked-open}
+use Rattle.fdt_promises.proofs.OpenNode.{since-within}
 
 -- ---- the record fits
 
@@ -71,9 +73,12 @@ module _ {numbers : List ℕ} {es : List Event} {boot : ℕ} {marks : List ℕ} 
       let few : w .reservations ≤ mostReservations = omega (arith, h .reservations, o .few) in
       let aligned : w .«blob_used» % 4 ≡ 0 = omega (arith, h .used, sizes-multiple es) in
       let started : structureStart (w .reservations) ≤ w .«blob_used» = omega (arith, h .used, h .reservations) in
+      let from : w .«node_start» % 4 ≡ 0 = omega (arith, aligned, h .start, sizes-multiple (sinceBegin es)) in
+      let inside : structureStart (w .reservations) ≤ w .«node_start» = omega (arith, h .start, h .used, h .reservations, since-within es) in
+      let up-to : w .«node_start» ≤ w .«blob_used» = omega (arith, h .start) in
       record {
         figures = simp (le-ltb _ _ (o .shallow), le-ltb _ _ few);
-        blob = simp (filled-fits (h .blob), eq-eqb _ _ aligned, le-ltb _ _ started);
+        blob = simp (filled-fits (h .blob), eq-eqb _ _ aligned, le-ltb _ _ started, eq-eqb _ _ from, le-ltb _ _ inside, le-ltb _ _ up-to);
         strings = simp (filled-fits (h .strings)) (ends-with-0 (w .«strings_used») refl);
         phandles = filled-fits (h .marks);
       }
@@ -118,11 +123,11 @@ module _ {numbers : List ℕ} {es : List Event} {boot : ℕ} {marks : List ℕ} 
   other-end handle = let f = open-fits o in other (endRows (s .writer) (length (s .blob)) handle) (inr refl, (inl (f .figures), (inl (f .blob), (inr refl, (inr refl, tt)))))
 
   other-property : (name : List ℕ) (v : Value) → misfitValue v ≡ false → Other (answer (to-have name v) s)
-  unfolding answer propertyAnswer propertyRows stateRows nameRows roomRows stringsRows blobRows aloneRows Others
+  unfolding answer propertyAnswer propertyRows stateRows nameRows placeRows stringsRows blobRows aloneRows Others
   other-property name v m =
       let f = open-fits o in
       other (propertyRows (s .writer) (s .blob) (s .strings) name v)
-      (inr refl, (inl (f .figures), (inl (f .blob), (inl (f .strings), (inl m, (inr refl, (inr refl, (inr refl, (inr refl, (inr refl, (inr refl, (inr refl, tt))))))))))))
+      (inr refl, (inl (f .figures), (inl (f .blob), (inl (f .strings), (inl m, (inr refl, (inr refl, (inr refl, (inr refl, (inr refl, (inr refl, (inr refl, (inr refl, tt)))))))))))))
 
   -- a phandle, before its value is recorded
   other-mark : (value : ℕ) → Other (markAnswer value s)

@@ -80,7 +80,7 @@ pub record NameStored (room used : ℕ) (strings name : List ℕ) (names : List 
 
 module _ {room used : ℕ} {strings : List ℕ} (name : List ℕ) {names : List (List ℕ)} (plain : PlainNames names) (f : Filled stringsCeiling (joined names) room used strings) where
   -- the name is found among the names exactly where it is found in the strings
-  among : (g : Found) → findString (take used strings) name ≡ g → firstFrom 0 names name ≡ g
+  pub among : (g : Found) → findString (take used strings) name ≡ g → firstFrom 0 names name ≡ g
   unfolding findString
   among g e = ap (λ (l : List (List ℕ)). firstFrom 0 l name) (sym (entries-joined plain) ∙ ap entries (sym (f .part))) ∙ e
 
@@ -128,10 +128,14 @@ unfolding AllPlain
 plain-snoc [] e a p = (p, tt)
 plain-snoc (x ∷ es) e a p = (a .0, plain-snoc es e (a .1) p)
 
+pub sizes-append : (es fs : List Event) → eventsSize (es ++ fs) ≡ eventsSize es + eventsSize fs
+unfolding eventsSize
+sizes-append [] fs = omega arith
+sizes-append (e ∷ es) fs = omega (arith, sizes-append es fs)
+
 pub size-snoc : (es : List Event) (e : Event) → eventsSize (es ++ (e ∷ [])) ≡ eventsSize es + eventSize e
 unfolding eventsSize
-size-snoc [] e = omega arith
-size-snoc (x ∷ es) e = omega (arith, size-snoc es e)
+size-snoc es e = omega (arith, sizes-append es (e ∷ []))
 
 pub depth-snoc : (es : List Event) (e : Event) → depthOf (es ++ (e ∷ [])) ≡ deepens (depthOf es) e
 unfolding depthOf

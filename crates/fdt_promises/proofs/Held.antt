@@ -35,17 +35,21 @@ use Rattle.fdt_finish.specs.Finish.{finishedRecord}
 use Rattle.fdt_calls.specs.Calls.{Request, to-open, to-boot, to-begin, to-end, to-have, to-mark, to-finish, to-show, Effect, opens, sets-boot, adds, records, no-effect, effect, Desk, withWriter, withPhandles, answer, after, markAnswer, marked, leftBy}
 use Rattle.fdt_calls.proofs.Refused.{marked-answer, marked-after, refused-mark, refused-after}
 use Rattle.fdt_promises.specs.Run.{Filled, Holds, addedBy, tells, bootAfter, boots, recordedBy, deepens, closes, InRun}
+use Rattle.fdt_promises.specs.OpenNode.{noneOpen, openIn}
 use Rattle.fdt_promises.proofs.Desks.{grown, booted-after, begun-after, ended-after, had-after, finished-after}
 use Rattle.fdt_promises.proofs.Growth.{more-filled, one-filled, no-zero, named, plain-snoc, size-snoc, depth-snoc, ended-snoc, Follows, still-shallow, still-accepted, still-nested}
+use Rattle.fdt_promises.proofs.OpenNode.{start-snoc, Fresh, Once, once-snoc}
+use Rattle.fdt_promises.proofs.Repeated.{repeated-exactly}
 
 -- what an open run holds, with what only the proofs need: at most 64 reservations, a boot number of 32 bits, at most 64 open nodes,
--- names without a byte 0, and events that nodes can go on from, with at most 64 of them open at once
+-- names without a byte 0, none of them twice in a node, and events that nodes can go on from, with at most 64 of them open at once
 pub record Open (numbers : List ℕ) (es : List Event) (boot : ℕ) (marks : List ℕ) (s : Desk) : Type 0 where
   pub holds : Holds numbers es boot marks s
   pub few : count numbers ≤ mostReservations
   pub small : boot < 2 ^ 32
   pub shallow : s .writer .«node_depth» ≤ mostDepth
   pub plain : AllPlain es
+  pub once : Once noneOpen es
   pub leads : (rest : List Event) → Accepted (s .writer .«node_depth») (s .writer .«node_ended») rest → Accepted 0 false (es ++ rest)
   pub nests : (rest : List Event) → Shallow (mostDepth - s .writer .«node_depth») rest → Shallow mostDepth (es ++ rest)
 
@@ -57,6 +61,7 @@ record Growing (es : List Event) (s : Desk) (e : Event) (bytes strings : List �
   room : s .writer .«blob_used» + length bytes ≤ s .writer .«blob_room»
   filled : Filled stringsCeiling (joined (namesOf (es ++ (e ∷ [])))) (s .writer .«strings_room») names strings
   plain : Plain e
+  fresh : Fresh (openIn es) e
   follows : Follows (s .writer .«node_depth») (s .writer .«node_ended») e
 
 module _ {numbers : List ℕ} {es : List Event} {boot : ℕ} {marks : List ℕ} {s : Desk} (o : Open numbers es boot marks s) where
@@ -81,6 +86,7 @@ module _ {numbers : List ℕ} {es : List Event} {boot : ℕ} {marks : List ℕ} 
           marks = h .marks;
           depth = ap (λ (d : ℕ). deepens d e) (h .depth) ∙ sym (depth-snoc es e);
           ended = ap (λ (b : Bool). closes b e) (h .ended) ∙ sym (ended-snoc es e);
+          start = start-snoc es e (w .«blob_used») (w .«node_start») (length bytes) (h .start) size;
           boot-number = h .boot-number;
           reservations = h .reservations;
         };
@@ -88,6 +94,7 @@ module _ {numbers : List ℕ} {es : List Event} {boot : ℕ} {marks : List ℕ} 
         small = o .small;
         shallow = still-shallow (w .«node_depth») (w .«node_ended») e (a .follows) (o .shallow);
         plain = plain-snoc es e (o .plain) (a .plain);
+        once = once-snoc es e (o .once) (a .fresh);
         leads = λ rest r. subst (Accepted 0 false) (sym (append-assoc es (e ∷ []) rest)) (o .leads (e ∷ rest) (still-accepted (w .«node_depth») (w .«node_ended») e rest (a .follows) r));
         nests = λ rest r. subst (Shallow mostDepth) (sym (append-assoc es (e ∷ []) rest)) (o .nests (e ∷ rest) (still-nested (w .«node_depth») (w .«node_ended») e rest (a .follows) (o .shallow) r));
       }
@@ -97,7 +104,7 @@ module _ {numbers : List ℕ} {es : List Event} {boot : ℕ} {marks : List ℕ} 
   same-names e q = subst (λ (l : List (List ℕ)). Filled stringsCeiling (joined l) (s .writer .«strings_room») (s .writer .«strings_used») (s .strings)) (sym (names-snoc es e ∙ q)) (o .holds .strings)
 
   begun-open : (name : List ℕ) → answer (to-begin name) s ≡ Done → Open numbers (es ++ (begins name ∷ [])) boot marks (after (to-begin name) s)
-  unfolding answer namesFrom eventBytes Plain Follows
+  unfolding answer namesFrom eventBytes Plain Fresh Follows
   begun-open name e =
       let f = begin-fits (s .writer) (length (s .blob)) name e in
       subst (Open numbers (es ++ (begins name ∷ [])) boot marks) (sym (begun-after s name e))
@@ -106,11 +113,12 @@ module _ {numbers : List ℕ} {es : List Event} {boot : ℕ} {marks : List ℕ} 
         room = f .room;
         filled = same-names (begins name) refl;
         plain = no-zero name (f .plain);
+        fresh = tt;
         follows = f .depth;
       }))
 
   ended-open : (handle : ℕ) → answer (to-end handle) s ≡ Done → Open numbers (es ++ (ends ∷ [])) boot marks (after (to-end handle) s)
-  unfolding answer namesFrom eventBytes eventSize Plain Follows
+  unfolding answer namesFrom eventBytes eventSize Plain Fresh Follows
   ended-open handle e =
       let f = end-fits (s .writer) (length (s .blob)) handle e in
       let size : length endBytes ≡ 4 = event-size [] ends in
@@ -120,11 +128,12 @@ module _ {numbers : List ℕ} {es : List Event} {boot : ℕ} {marks : List ℕ} 
         room = omega (arith, f .room, size);
         filled = same-names ends refl;
         plain = tt;
+        fresh = tt;
         follows = f .depth;
       }))
 
   had-open : (name : List ℕ) (v : Value) → answer (to-have name v) s ≡ Done → Open numbers (es ++ (has (name ≔ valueBytes v) ∷ [])) boot marks (after (to-have name v) s)
-  unfolding answer written placeOf namesFrom namesOf eventBytes eventSize Plain Follows
+  unfolding answer written placeOf namesFrom namesOf eventBytes eventSize Plain Fresh Follows
   had-open name v e =
       let f = property-fits (s .writer) (s .blob) (s .strings) name v e in
       let event = has (name ≔ valueBytes v) in
@@ -139,6 +148,7 @@ module _ {numbers : List ℕ} {es : List Event} {boot : ℕ} {marks : List ℕ} 
         room = f .room;
         filled = subst (λ (l : List (List ℕ)). Filled stringsCeiling (joined l) (s .writer .«strings_room») (s .writer .«strings_used» + added p name) (stored p name (s .strings))) (sym n) (g .filled);
         plain = no-zero name (f .plain);
+        fresh = λ m. true≢false (sym (repeated-exactly (o .holds) (o .plain) (f .unended) name .1 m) ∙ f .once);
         follows = (f .inside, f .unended);
       }))
 
@@ -157,6 +167,7 @@ module _ {numbers : List ℕ} {es : List Event} {boot : ℕ} {marks : List ℕ} 
           marks = f;
           depth = h .depth;
           ended = h .ended;
+          start = h .start;
           boot-number = q;
           reservations = h .reservations;
         };
@@ -164,6 +175,7 @@ module _ {numbers : List ℕ} {es : List Event} {boot : ℕ} {marks : List ℕ} 
         small = l;
         shallow = o .shallow;
         plain = o .plain;
+        once = o .once;
         leads = o .leads;
         nests = o .nests;
       }

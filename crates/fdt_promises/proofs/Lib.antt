@@ -1,3 +1,4 @@
+pub mod Cases20
 pub mod Demands
 pub mod Described
 pub mod Desks
@@ -7,9 +8,12 @@ pub mod Fitting
 pub mod Growth
 pub mod Held
 pub mod Idle
+pub mod OpenNode
 pub mod OwnBytes
 pub mod PastUsable
 pub mod ReadBack
+pub mod Refused20
+pub mod Repeated
 pub mod Runs
 pub mod Starred
 pub mod Usable

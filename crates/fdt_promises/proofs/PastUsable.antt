@@ -2,7 +2,7 @@
 use mathlib.Core.Path.{_≡_, refl, ap, subst, _∙_}
 use mathlib.Core.Bool.{Bool, true, false, cond, _&&_}
 use mathlib.Core.List.{List, [], _∷_, _++_}
-use Prim.Native.Nat.{ℕ, _+_}
+use Prim.Native.Nat.{ℕ, _+_, _≤_}
 use native.Mathlib.Omega.{arith}
 use borrow.Author.Tests.{eqb-true, leb-true}
 use lib.Dec.{eqb, leb}
@@ -28,14 +28,15 @@ use Rattle.fdt_record.specs.Rows.{Row, _⇒_, first}
 use Rattle.fdt_record.specs.Tests.{aloneRows, blobRows, stringsRows}
 use Rattle.fdt_record.proofs.Answers.{accepts-done, upon-same}
 use Rattle.fdt_record.proofs.FirstTests.{strings-refusals}
-use Rattle.fdt_record.proofs.Fits.{fit-blob, FitStrings, fit-strings, fit-phandles}
+use Rattle.fdt_record.proofs.Fits.{usable-within, FitBlob, FitStrings, fit-phandles}
 use Rattle.fdt_record.proofs.Rows.{Refusals, ByName, by-name, exactly, refusals-more, append-same}
-use Rattle.fdt_properties.specs.Property.{placeOf, placeOffset, stored, written, stateRows, nameRows, roomRows, propertyRows, propertyAnswer, propertyRecord, property, propertyBlob, propertyStrings}
+use Rattle.fdt_properties.specs.Property.{placeOf, isKnown, placeOffset, isRepeated, stored, written, stateRows, nameRows, placeRows, propertyRows, propertyAnswer, propertyRecord, property, propertyBlob, propertyStrings}
 use Rattle.fdt_properties.proofs.Property.{first-refusals, PropertyFits, property-fits}
 use Rattle.fdt_properties.proofs.Steps.{first-fits}
 use Rattle.fdt_header.specs.Header.{headerSize, headerBytes}
 use Rattle.fdt_format.specs.Tokens.{beginBytes, propertyBytes, endBytes, finalBytes}
 use Rattle.fdt_header.proofs.HeaderBytes.{length-header}
+use Rattle.fdt_format.proofs.LookBack.{look-same}
 use Rattle.fdt_format.proofs.Tokens.{length-end, length-final}
 use Rattle.fdt_opening.specs.Opening.{openingRows, openingAnswer, openedRecord, openingBytes, opening, openingBlob}
 use Rattle.fdt_opening.proofs.Opening.{opened-fits, length-openingBytes}
@@ -160,16 +161,26 @@ module _ (xs ys : List ℕ) (same : SameUsable blobCeiling xs ys) where
       unfolding placeOf
       same-place f = ap (λ (s : List ℕ). interned s (w .«strings_room») name) (same-used w f)
 
-      same-rooms : FitStrings w ss → first (roomRows w ss name v) ≡ first (roomRows w ts name v)
-      unfolding roomRows propertyRecord written
-      same-rooms f = simp (same-place f)
+      -- the look back reads within the used blob
+      same-repeated : FitBlob w (length xs) → FitStrings w ss → isRepeated w xs (placeOf w ss name) ≡ isRepeated w ys (placeOf w ts name)
+      unfolding isRepeated
+      same-repeated f g =
+          let front = same-front blobCeiling (w .«blob_used») xs ys same (omega (arith, f .room, f .used)) in
+          let room : w .«blob_used» ≤ length ys = omega (arith, usable-within blobCeiling (length ys) .0, same-length blobCeiling xs ys same, f .room, f .used) in
+          let p = placeOf w ss name in
+          ap (λ (t : Bool). isKnown p && t) (look-same xs ys (w .«blob_used») front (omega (arith, f .used, f .within)) room (placeOffset p) (w .«node_start»))
+          ∙ ap (isRepeated w ys) (same-place g)
+
+      same-places : FitBlob w (length xs) → FitStrings w ss → first (placeRows w xs ss name v) ≡ first (placeRows w ys ts name v)
+      unfolding placeRows propertyRecord written
+      same-places f g = rw (same-repeated f g, same-place g)
 
       same-property : propertyAnswer w xs ss name v ≡ propertyAnswer w ys ts name v
       unfolding propertyAnswer propertyRows first-rows
       same-property =
-          append-same (first-rows (length xs) ss) (first-rows (length ys) ts) (roomRows w ss name v) (roomRows w ts name v)
+          append-same (first-rows (length xs) ss) (first-rows (length ys) ts) (placeRows w xs ss name v) (placeRows w ys ts name v)
           (first-refusals w (length xs) ss name (misfitValue v) (zeroValue v)) (first-refusals w (length ys) ts name (misfitValue v) (zeroValue v)) same-state
-          (λ e. same-rooms (first-fits w xs ss name (record { misfit = misfitValue v; zero = zeroValue v; len = 0 }) refl e .names))
+          (λ e. let f = first-fits w xs ss name (record { misfit = misfitValue v; zero = zeroValue v; len = 0 }) refl e in same-places (f .blob-fits) (f .names))
 
       -- equal if the call is accepted, so equal
       accepted-same : {A : Type 0} (x x′ y : A) → (accepts (propertyAnswer w xs ss name v) ≡ true → x ≡ x′) → upon (propertyAnswer w xs ss name v) x y ≡ upon (propertyAnswer w ys ts name v) x′ y

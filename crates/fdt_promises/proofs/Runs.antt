@@ -28,14 +28,16 @@ use Rattle.fdt_finish.specs.Finish.{finishRows, finishAnswer}
 use Rattle.fdt_calls.specs.Calls.{Request, to-open, to-boot, to-begin, to-end, to-have, to-mark, to-finish, to-show, effect, Desk, answer, after, markAnswer, marked, leftBy}
 use Rattle.fdt_calls.proofs.Refused.{refused-mark, refused-after}
 use Rattle.fdt_promises.specs.Run.{runs, acceptedCalls, recordedBy, phandlesOf, tells, eventsOf, boots, depthOf, endedOf, InRun, AllInRun}
+use Rattle.fdt_promises.specs.OpenNode.{sinceBegin}
 use Rattle.fdt_promises.proofs.Desks.{opened-after}
 use Rattle.fdt_promises.proofs.Growth.{none-filled, more-filled}
 use Rattle.fdt_promises.proofs.Held.{Open, accepted-open, refused-open}
+use Rattle.fdt_promises.proofs.OpenNode.{Once}
 
 -- ---- the opening
 
 pub opened-open : (s : Desk) (numbers : List ℕ) → answer (to-open numbers) s ≡ Done → Open numbers [] 0 [] (after (to-open numbers) s)
-unfolding answer openedRecord openingBytes namesOf namesFrom structureBytes eventsSize joined depthOf endedOf AllPlain
+unfolding answer openedRecord openingBytes namesOf namesFrom structureBytes eventsSize joined depthOf endedOf sinceBegin AllPlain Once
 opened-open s numbers e =
     let f = opened-fits (length (s .blob)) _ _ numbers e in
     let bytes = zeros headerSize ++ reservationBytes numbers in
@@ -51,6 +53,7 @@ opened-open s numbers e =
         marks = none-filled phandlesCeiling (s .phandles);
         depth = refl;
         ended = refl;
+        start = omega arith;
         boot-number = refl;
         reservations = refl;
       };
@@ -58,6 +61,7 @@ opened-open s numbers e =
       small = lit< tt;
       shallow = omega arith;
       plain = tt;
+      once = tt;
       leads = λ rest a. a;
       nests = λ rest a. a;
     })

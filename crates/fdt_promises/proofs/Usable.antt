@@ -8,14 +8,14 @@ use native.Mathlib.Omega.{arith}
 use borrow.Author.Tests.{lt-ltb, eqb-true, eq-eqb}
 use lib.Dec.{eqb, ltb}
 use lib.ListN.{length, take, drop, getD, set, length-drop, length-set}
-use lib.Seq.{length-take-le, take-take, take-add, take-append-add, drop-at, getD-take, take-set-lt}
-use Rattle.fdt_bytes.proofs.Splice.{length-splice}
+use lib.Seq.{length-take-le, take-take, take-append-add, getD-take, take-set-lt}
+use Rattle.fdt_bytes.proofs.Splice.{length-splice, drop-take}
 use Rattle.fdt_bytes.specs.Splice.{over, splice}
 use Rattle.fdt_record.specs.declared.Answer.{Answer}
 use Rattle.fdt_record.specs.declared.Record.{Record}
 use Rattle.fdt_record.specs.Answers.{accepts, upon}
 use Rattle.fdt_record.specs.Limits.{blobCeiling, stringsCeiling, usable}
-use Rattle.fdt_record.specs.Misfits.{misfitRoom, offStructure, misfitBlob, misfitStrings}
+use Rattle.fdt_record.specs.Misfits.{misfitRoom, misfitBlob, misfitStrings}
 use Rattle.fdt_promises.specs.Effects.{SameUsable}
 
 -- the usable part's length
@@ -34,10 +34,6 @@ unfolding SameUsable
 same-front ceiling n xs ys e h =
     sym (take-take n (usable ceiling (length xs)) xs h) ∙ ap (take n) e
     ∙ take-take n (usable ceiling (length ys)) ys (omega (arith, h, same-length ceiling xs ys e))
-
--- what follows k elements of the first k + j
-drop-take : (k j : ℕ) (xs : List ℕ) → k ≤ length xs → drop k (take (k + j) xs) ≡ take j (drop k xs)
-drop-take k j xs h = ap (drop k) (take-add k j xs) ∙ drop-at (take k xs) (take j (drop k xs)) k (length-take-le k xs h)
 
 -- a splice within the front
 pub take-splice : (n at : ℕ) (bs xs : List ℕ) → at + length bs ≤ n → n ≤ length xs → take n (splice at bs xs) ≡ splice at bs (take n xs)
@@ -84,8 +80,7 @@ same-set ceiling i v xs ys e h =
 -- a blob is judged by its usable length alone
 pub same-misfit-blob : (w : Record) (xs ys : List ℕ) → SameUsable blobCeiling xs ys → misfitBlob w (length xs) ≡ misfitBlob w (length ys)
 unfolding misfitBlob misfitRoom
-same-misfit-blob w xs ys e =
-    ap (λ (n : ℕ). (not (eqb n (w .«blob_room»)) || ltb (w .«blob_room») (w .«blob_used»)) || offStructure (w .reservations) (w .«blob_used»)) (same-length blobCeiling xs ys e)
+same-misfit-blob w xs ys e = rw (same-length blobCeiling xs ys e)
 
 -- strings are judged by their usable part alone
 pub same-misfit-strings : (w : Record) (xs ys : List ℕ) → SameUsable stringsCeiling xs ys → misfitStrings w xs ≡ misfitStrings w ys

@@ -10,6 +10,7 @@ use Rattle.fdt_strings.specs.Entries.{joined}
 use Rattle.fdt_values.specs.Value.{sum, valueBytes}
 use Rattle.fdt_format.specs.Blob.{namesOf, structureBytes, eventsSize}
 use Rattle.fdt_format.specs.Description.{_≔_, Nodes, Reservation, reservation, Description}
+use Rattle.fdt_format.specs.Distinct.{DistinctNames}
 use Rattle.fdt_format.specs.Events.{Event, begins, has, ends, nodesOf}
 use Rattle.fdt_header.specs.Header.{headerSize, structureStart, reservationBytes}
 use Rattle.fdt_record.specs.declared.Answer.the-variants.{Done}
@@ -20,6 +21,7 @@ use Rattle.fdt_opening.specs.Opening.{count}
 use Rattle.fdt_phandles.specs.Phandle.{phandleName, phandleValue}
 use Rattle.fdt_calls.specs.Calls.{Call, new-with-mem-reserv, property-string-list, asks, Request, to-open, to-finish, to-show, Effect, opens, sets-boot, adds, records, no-effect, effect, Desk, answer, after, markAnswer}
 use Rattle.fdt_calls.specs.Called.{shownPart}
+use Rattle.fdt_promises.specs.OpenNode.{sinceBegin}
 
 -- ---- calls one after the other
 
@@ -139,6 +141,8 @@ pub record Holds (numbers : List ℕ) (es : List Event) (boot : ℕ) (phandles :
   pub marks : Filled phandlesCeiling phandles (s .writer .«phandles_room») (s .writer .«phandles_used») (s .phandles)
   pub depth : s .writer .«node_depth» ≡ depthOf es
   pub ended : s .writer .«node_ended» ≡ endedOf es
+  -- where the open node's properties start: the events since a node began last are from there to the used length
+  pub start : s .writer .«node_start» + eventsSize (sinceBegin es) ≡ s .writer .«blob_used»
   pub boot-number : s .writer .«boot_cpuid_phys» ≡ boot
   pub reservations : s .writer .reservations ≡ count numbers
 
@@ -205,6 +209,11 @@ Finishes r = answer to-finish (desk r) ≡ Done
 -- the blob that is shown then
 unfoldable pub blob : Run → List ℕ
 blob r = shownPart (after to-finish (desk r))
+
+-- the run describes this, and no node of it has two properties of one name
+pub record Describes (r : Run) (d : Description) : Type 0 where
+  pub is : description r ≡ some d
+  pub distinct : DistinctNames (d .nodes)
 
 -- a call that changes nothing: showing, or a call that is refused and records no phandle
 pub data Idle (s : Desk) : Request → Type 0 where

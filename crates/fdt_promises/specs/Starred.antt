@@ -17,17 +17,18 @@ use Rattle.fdt_finish.specs.Finish.{finish, finishBlob}
 use Rattle.fdt_finish.specs.Shown.{shown}
 use Rattle.fdt_promises.specs.Examples.{dirty, emptyWords}
 
--- a case: a number that a call answers, or bytes that it leaves, and what document 01 says they are
+-- a case: a number that a call answers, or a list, of bytes that it leaves or of what calls answer one after the other; and what it
+-- must be
 pub data StarredCase : Type 0 where
   answers : ℕ → ℕ → StarredCase
   leaves : List ℕ → List ℕ → StarredCase
 
--- the case is as document 01 says
+-- the two are the same
 unfoldable pub holds : StarredCase → Bool
 holds (answers given expected) = eqb given expected
 holds (leaves given expected) = same given expected
 
--- every case of the table is
+-- every case of the table holds
 unfoldable pub allHold : List StarredCase → Bool
 allHold [] = true
 allHold (c ∷ cs) = holds c && allHold cs

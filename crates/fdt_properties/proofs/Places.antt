@@ -18,20 +18,20 @@ use Rattle.fdt_record.specs.Limits.{stringsCeiling}
 use Rattle.fdt_record.proofs.Fits.{FitStrings}
 use Rattle.fdt_properties.specs.declared.Place.{Place}
 use Rattle.fdt_properties.specs.Placeholder.{PlaceIs, NameFits, storedAt}
-use Rattle.fdt_properties.specs.Property.{placeOf, isFull, placeOffset, added, stored}
+use Rattle.fdt_properties.specs.Property.{placeOf, isKnown, isFull, placeOffset, added, stored}
 
 -- the figures of each place
-pub known-is : (offset : ℕ) (name : List ℕ) → PlaceIs (Known offset) name (record { full = false; offset = offset; added = 0 })
-unfolding isFull numberOf placeOffset valuesOf added
-known-is offset name = record { full-is = refl; offset-is = refl; added-is = refl }
+pub known-is : (offset : ℕ) (name : List ℕ) → PlaceIs (Known offset) name (record { known = true; full = false; offset = offset; added = 0 })
+unfolding isKnown isFull numberOf placeOffset valuesOf added
+known-is offset name = record { known-is = refl; full-is = refl; offset-is = refl; added-is = refl }
 
-pub new-is : (offset : ℕ) (name : List ℕ) → PlaceIs (New offset) name (record { full = false; offset = offset; added = length name + 1 })
-unfolding isFull numberOf placeOffset valuesOf added
-new-is offset name = record { full-is = refl; offset-is = refl; added-is = sym (length-entry name) }
+pub new-is : (offset : ℕ) (name : List ℕ) → PlaceIs (New offset) name (record { known = false; full = false; offset = offset; added = length name + 1 })
+unfolding isKnown isFull numberOf placeOffset valuesOf added
+new-is offset name = record { known-is = refl; full-is = refl; offset-is = refl; added-is = sym (length-entry name) }
 
-pub none-is : (name : List ℕ) → PlaceIs StringRoom name (record { full = true; offset = 0; added = 0 })
-unfolding isFull numberOf placeOffset valuesOf added
-none-is name = record { full-is = refl; offset-is = refl; added-is = refl }
+pub none-is : (name : List ℕ) → PlaceIs StringRoom name (record { known = false; full = true; offset = 0; added = 0 })
+unfolding isKnown isFull numberOf placeOffset valuesOf added
+none-is name = record { known-is = refl; full-is = refl; offset-is = refl; added-is = refl }
 
 pub place-is : {p q : Interned} {name : List ℕ} {r : Place} → p ≡ q → PlaceIs q name r → PlaceIs p name r
 place-is {name = name} {r} e = subst (λ (p : Interned). PlaceIs p name r) (sym e)

@@ -7,14 +7,14 @@ use native.Mathlib.Omega.{arith}
 use borrow.Author.Tests.{eqb-false}
 use lib.ListN.{length}
 use Rattle.fdt_names.specs.Names.{hasZero}
-use Rattle.fdt_values.specs.Value.{Value, misfitValue, zeroValue}
+use Rattle.fdt_values.specs.Value.{Value, misfitValue}
 use Rattle.fdt_record.specs.declared.Answer.the-variants.{Done}
 use Rattle.fdt_record.specs.declared.Record.{Record}
 use Rattle.fdt_record.specs.Answers.{accepts}
 use Rattle.fdt_record.specs.Tests.{aloneRows, blobRows, stringsRows}
 use Rattle.fdt_record.proofs.Fits.{FitRecord, fit-record, FitBlob, fit-blob, FitStrings, fit-strings, not-overfull}
 use Rattle.fdt_record.proofs.Rows.{allAnswers, Refusals, ByName, by-name, Exactly, exactly}
-use Rattle.fdt_properties.specs.Property.{placeOf, isFull, written, propertyRecord, stateRows, nameRows, roomRows, propertyRows, propertyAnswer}
+use Rattle.fdt_properties.specs.Property.{placeOf, isFull, isRepeated, written, propertyRecord, stateRows, nameRows, placeRows, propertyRows, propertyAnswer}
 
 -- every answer of the rows is a refusal
 pub first-refusals : (w : Record) (lent : ℕ) (strings name : List ℕ) (misfit zero : Bool) → Refusals (stateRows w lent strings misfit zero ++ nameRows name)
@@ -22,7 +22,7 @@ unfolding stateRows stringsRows blobRows aloneRows nameRows allAnswers Refusals 
 first-refusals w lent strings name misfit zero = refl
 
 refusals : (w : Record) (blob strings name : List ℕ) (v : Value) → Refusals (propertyRows w blob strings name v)
-unfolding propertyRows stateRows stringsRows blobRows aloneRows nameRows roomRows allAnswers Refusals accepts
+unfolding propertyRows stateRows stringsRows blobRows aloneRows nameRows placeRows allAnswers Refusals accepts
 refusals w blob strings name v = refl
 
 module _ (w : Record) (blob strings name : List ℕ) (v : Value) where
@@ -39,14 +39,15 @@ module _ (w : Record) (blob strings name : List ℕ) (v : Value) where
     pub unended : w .«node_ended» ≡ false
     pub inside : 0 < w .«node_depth»
     pub plain : hasZero name ≡ false
+    pub once : isRepeated w blob (placeOf w strings name) ≡ false
     pub placed : isFull (placeOf w strings name) ≡ false
     pub room : w .«blob_used» + length (written w strings name v) ≤ w .«blob_room»
 
   pub property-fits : propertyAnswer w blob strings name v ≡ Done → PropertyFits
-  unfolding propertyRows stateRows stringsRows blobRows aloneRows nameRows roomRows propertyRecord ByName
+  unfolding propertyRows stateRows stringsRows blobRows aloneRows nameRows placeRows propertyRecord ByName
   property-fits e =
       by-name (propertyRows w blob strings name v) (property-exactly .accepted .0 e)
-      (λ unfinished figures lent stored misfit text ended outside zero wrong full over.
+      (λ unfinished figures lent stored misfit text ended outside zero wrong repeated full over.
       let d = eqb-false (w .«node_depth») 0 outside in
       record {
         figures = fit-record w figures;
@@ -56,6 +57,7 @@ module _ (w : Record) (blob strings name : List ℕ) (v : Value) where
         unended = ended;
         inside = omega arith;
         plain = zero;
+        once = repeated;
         placed = full;
         room = not-overfull (propertyRecord w strings name v) over;
       })

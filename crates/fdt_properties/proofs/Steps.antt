@@ -1,29 +1,30 @@
--- The tests of a property in two steps: those that do not search the strings, and then those of the rooms. What is said of
--- the answer holds for every value with these figures.
+-- The tests of a property in two steps: those that do not search the strings, and then those of the name's place and the rooms. What
+-- is said of the answer holds for every value with these figures.
 use mathlib.Core.Path.{_≡_, refl, sym, ap, _∙_}
-use mathlib.Core.Bool.{Bool, true, false, true≢false}
+use mathlib.Core.Bool.{Bool, true, false, _&&_, true≢false}
 use mathlib.Core.List.{List, [], _∷_, _++_}
 use Prim.Native.Nat.{ℕ, _+_, _≤_}
 use native.Mathlib.Omega.{arith}
 use lib.ListN.{length}
 use Rattle.fdt_bytes.specs.Padding.{roundUp}
+use Rattle.fdt_format.specs.LookBack.{lookBack}
 use Rattle.fdt_format.proofs.Tokens.{length-property}
 use Rattle.fdt_values.specs.Value.{Value, valueBytes, misfitValue, zeroValue}
 use Rattle.fdt_record.specs.declared.Answer.{Answer}
-use Rattle.fdt_record.specs.declared.Answer.the-variants.{StringRoom, BlobRoom}
+use Rattle.fdt_record.specs.declared.Answer.the-variants.{DuplicateProperty, StringRoom, BlobRoom}
 use Rattle.fdt_record.specs.declared.Record.{Record}
 use Rattle.fdt_record.specs.Answers.{accepts}
 use Rattle.fdt_record.specs.Fields.{withUsedBlob, withUsedStrings}
 use Rattle.fdt_record.specs.Misfits.{overfull}
-use Rattle.fdt_record.specs.Rows.{Row, _⇒_, first}
+use Rattle.fdt_record.specs.Rows.{_⇒_, first}
 use Rattle.fdt_record.specs.Tests.{aloneRows, blobRows, stringsRows}
 use Rattle.fdt_record.proofs.Answers.{accepts-done}
 use Rattle.fdt_record.proofs.Fits.{FitBlob, fit-blob, FitStrings, fit-strings, not-overfull}
 use Rattle.fdt_record.proofs.Rows.{allAnswers, Refusals, ByName, by-name, exactly, stands, goes-on}
 use Rattle.fdt_properties.specs.declared.Measured.{Measured}
 use Rattle.fdt_properties.specs.declared.Place.{Place}
-use Rattle.fdt_properties.specs.Placeholder.{PlaceIs, Measures, NameFits, FrameFits, Passed, PropertyTested}
-use Rattle.fdt_properties.specs.Property.{placeOf, isFull, placeOffset, added, written, propertyRecord, stateRows, nameRows, roomRows, propertyRows, propertyAnswer}
+use Rattle.fdt_properties.specs.Placeholder.{PlaceIs, Measures, PropertyTested}
+use Rattle.fdt_properties.specs.Property.{placeOf, placeOffset, isRepeated, added, written, propertyRecord, stateRows, nameRows, placeRows, propertyRows, propertyAnswer}
 use Rattle.fdt_properties.proofs.Places.{settled}
 use Rattle.fdt_properties.proofs.Property.{first-refusals}
 
@@ -62,7 +63,7 @@ module _ (w : Record) (blob strings name : List ℕ) (m : Measured) {a : Answer}
   }
 
   -- answered by the second step
-  module _ (r : accepts a ≡ true) {p : Place} (placed : PlaceIs (placeOf w strings name) name p) {after : Record} (grew : after ≡ grown w (m .len) (p .added)) {b : Answer} (says : b ≡ first ((p .full ⇒ StringRoom) ∷ (overfull after ⇒ BlobRoom) ∷ [])) where
+  module _ (r : accepts a ≡ true) {p : Place} (placed : PlaceIs (placeOf w strings name) name p) {repeated : Bool} (seen : repeated ≡ (p .known && lookBack blob (w .«blob_used») (p .offset) (w .«node_start»))) {after : Record} (grew : after ≡ grown w (m .len) (p .added)) {b : Answer} (says : b ≡ first ((repeated ⇒ DuplicateProperty) ∷ (p .full ⇒ StringRoom) ∷ (overfull after ⇒ BlobRoom) ∷ [])) where
     in-order : (v : Value) → Measures m v → misfitValue v ≡ false
     in-order v k = sym (k .misfit-is) ∙ first-fits r .in-order
 
@@ -74,17 +75,19 @@ module _ (w : Record) (blob strings name : List ℕ) (m : Measured) {a : Answer}
         ∙ ap (λ (n : ℕ). withUsedStrings (w .«strings_used» + added (placeOf w strings name) name) (withUsedBlob (w .«blob_used» + n) w))
         (ap (λ (n : ℕ). 12 + roundUp 4 n) (k .len-is (in-order v k)) ∙ sym (length-property (placeOffset (placeOf w strings name)) (valueBytes v)))
 
-    says-of : (v : Value) → Measures m v → b ≡ first (roomRows w strings name v)
-    unfolding roomRows
-    says-of v k =
-        says ∙ ap (λ (x : Bool). first ((x ⇒ StringRoom) ∷ (overfull after ⇒ BlobRoom) ∷ [])) (placed .full-is)
-        ∙ ap (λ (x : Record). first ((isFull (placeOf w strings name) ⇒ StringRoom) ∷ (overfull x ⇒ BlobRoom) ∷ [])) (after-of v k)
+    seen-of : repeated ≡ isRepeated w blob (placeOf w strings name)
+    unfolding isRepeated
+    seen-of = seen ∙ rw (placed .known-is, placed .offset-is)
+
+    says-of : (v : Value) → Measures m v → b ≡ first (placeRows w blob strings name v)
+    unfolding placeRows
+    says-of v k = says ∙ rw (seen-of, placed .full-is, after-of v k)
 
     room-passed : accepts b ≡ true → overfull after ≡ false
     unfolding allAnswers ByName Refusals accepts
     room-passed h =
-        let rows = (p .full ⇒ StringRoom) ∷ (overfull after ⇒ BlobRoom) ∷ [] in
-        by-name rows (exactly rows refl .accepted .0 (sym says ∙ accepts-done b h)) (λ full over. over)
+        let rows = (repeated ⇒ DuplicateProperty) ∷ (p .full ⇒ StringRoom) ∷ (overfull after ⇒ BlobRoom) ∷ [] in
+        by-name rows (exactly rows refl .accepted .0 (sym says ∙ accepts-done b h)) (λ twice full over. over)
 
     pub answered-second : PropertyTested w blob strings name m (record { answer = b; offset = p .offset; added = p .added; after = after })
     unfolding propertyAnswer propertyRows roundUp

@@ -19,10 +19,11 @@ use Rattle.fdt_properties.specs.declared.Measured.{Measured}
 use Rattle.fdt_properties.specs.declared.Place.{Place}
 use Rattle.fdt_properties.specs.declared.Tested.{Tested}
 use Rattle.fdt_properties.specs.declared.Placed.{Placed}
-use Rattle.fdt_properties.specs.Property.{placeOf, isFull, placeOffset, added, written, propertyRecord, propertyAnswer, property, propertyStrings}
+use Rattle.fdt_properties.specs.Property.{placeOf, isKnown, isFull, placeOffset, added, written, propertyRecord, propertyAnswer, property, propertyStrings}
 
 -- the figures of a name's place
 pub record PlaceIs (p : Interned) (name : List ℕ) (r : Place) : Type 0 where
+  pub known-is : r .known ≡ isKnown p
   pub full-is : r .full ≡ isFull p
   pub offset-is : r .offset ≡ placeOffset p
   pub added-is : r .added ≡ added p name

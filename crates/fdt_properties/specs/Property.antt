@@ -1,7 +1,7 @@
 -- What `property` and the calls of its kinds answer and leave (document 01: property tests 18, 17, 2, 1, 5, 11, 15, 14;
--- string and string list 18, 17, 5 for a value, then as property).
+-- string and string list 18, 17, 5 for a value, then as property; document 02, request 4/14: 20 after 11 and before 15).
 use mathlib.Core.Path.{_≡_}
-use mathlib.Core.Bool.{Bool, not}
+use mathlib.Core.Bool.{Bool, true, false, not, _&&_}
 use mathlib.Core.List.{List, [], _∷_, _++_}
 use Prim.Native.Nat.{ℕ, _+_}
 use lib.Dec.{eqb}
@@ -13,10 +13,11 @@ use Rattle.fdt_strings.specs.declared.Interned.{Interned}
 use Rattle.fdt_strings.specs.declared.Interned.the-variants as place
 use Rattle.fdt_strings.specs.Entries.{entry}
 use Rattle.fdt_strings.specs.Interned.{interned, numberOf, valuesOf}
+use Rattle.fdt_format.specs.LookBack.{lookBack}
 use Rattle.fdt_format.specs.Tokens.{propertyBytes}
 use Rattle.fdt_values.specs.Value.{Value, valueBytes, misfitValue, zeroValue}
 use Rattle.fdt_record.specs.declared.Answer.{Answer}
-use Rattle.fdt_record.specs.declared.Answer.the-variants.{Misfit, PropertyAfterEndNode, PropertyBeforeBeginNode, InvalidString, InvalidPropertyName, StringRoom, BlobRoom}
+use Rattle.fdt_record.specs.declared.Answer.the-variants.{Misfit, PropertyAfterEndNode, PropertyBeforeBeginNode, InvalidString, InvalidPropertyName, DuplicateProperty, StringRoom, BlobRoom}
 use Rattle.fdt_record.specs.declared.Outcome.{Outcome}
 use Rattle.fdt_record.specs.declared.Record.{Record}
 use Rattle.fdt_record.specs.Answers.{upon}
@@ -29,6 +30,12 @@ use Rattle.fdt_record.specs.Tests.{stringsRows}
 unfoldable pub placeOf : Record → List ℕ → List ℕ → Interned
 placeOf w strings name = interned (take (w .«strings_used») strings) (w .«strings_room») name
 
+-- the name is stored
+unfoldable pub isKnown : Interned → Bool
+isKnown (place.Known offset) = true
+isKnown (place.New offset) = false
+isKnown place.StringRoom = false
+
 -- a new name and its 0 don't fit
 unfoldable pub isFull : Interned → Bool
 isFull p = eqb (numberOf p) 15
@@ -36,6 +43,11 @@ isFull p = eqb (numberOf p) 15
 -- the name's offset: the value that its place has
 unfoldable pub placeOffset : Interned → ℕ
 placeOffset p = getD (valuesOf p) 0 0
+
+-- the open node already has a property of the name: the name is stored, and the look back from where the node's properties start to the
+-- used length meets its offset
+unfoldable pub isRepeated : Record → List ℕ → Interned → Bool
+isRepeated w blob p = isKnown p && lookBack blob (w .«blob_used») (placeOffset p) (w .«node_start»)
 
 -- how many bytes a new name adds to the used strings
 unfoldable pub added : Interned → List ℕ → ℕ
@@ -73,15 +85,18 @@ stateRows w lent strings misfit zero =
 unfoldable pub nameRows : List ℕ → List Row
 nameRows name = (hasZero name ⇒ InvalidString) ∷ (not (matches propertyName name) ⇒ InvalidPropertyName) ∷ []
 
--- the tests of the rooms, in their order: of the name's place, and of the record that the call would leave
-unfoldable pub roomRows : Record → List ℕ → List ℕ → Value → List Row
-roomRows w strings name v =
-    (isFull (placeOf w strings name) ⇒ StringRoom) ∷ (overfull (propertyRecord w strings name v) ⇒ BlobRoom) ∷ []
+-- the tests of the name's place, and of the record that the call would leave, in their order
+unfoldable pub placeRows : Record → List ℕ → List ℕ → List ℕ → Value → List Row
+placeRows w blob strings name v =
+    (isRepeated w blob (placeOf w strings name) ⇒ DuplicateProperty)
+    ∷ (isFull (placeOf w strings name) ⇒ StringRoom)
+    ∷ (overfull (propertyRecord w strings name v) ⇒ BlobRoom)
+    ∷ []
 
 -- all tests, in their order
 unfoldable pub propertyRows : Record → List ℕ → List ℕ → List ℕ → Value → List Row
 propertyRows w blob strings name v =
-    (stateRows w (length blob) strings (misfitValue v) (zeroValue v) ++ nameRows name) ++ roomRows w strings name v
+    (stateRows w (length blob) strings (misfitValue v) (zeroValue v) ++ nameRows name) ++ placeRows w blob strings name v
 
 -- the answer
 unfoldable pub propertyAnswer : Record → List ℕ → List ℕ → List ℕ → Value → Answer

@@ -1,10 +1,12 @@
 // A property, except its value: makes its tests, stores its name, and writes its words and padding.
 ghost use mathlib.Core.Path.{_≡_};
+ghost use mathlib.Core.Bool.{_&&_};
 ghost use mathlib.Core.List.{[], _∷_, _++_};
 ghost use Prim.Native.Nat.{_+_, _-_, _≤_, _<_, _^_};
 ghost use lib.ListN.{length};
 ghost use Rattle.fdt_bytes.specs.Padding.{roundUp};
-ghost use Rattle.fdt_record.specs.declared.Answer.the-variants.{StringRoom, BlobRoom};
+ghost use Rattle.fdt_format.specs.LookBack.{lookBack};
+ghost use Rattle.fdt_record.specs.declared.Answer.the-variants.{DuplicateProperty, StringRoom, BlobRoom};
 ghost use Rattle.fdt_record.specs.Fields.{withUsedBlob, withUsedStrings};
 ghost use Rattle.fdt_record.specs.Misfits.{overfull};
 ghost use Rattle.fdt_record.specs.Rows.{_⇒_, first};
@@ -24,8 +26,9 @@ pub struct Measured {
     pub len: usize,
 }
 
-// A name's place: whether it has none, its offset, and how many bytes it adds to the used strings.
+// A name's place: whether it is in the used strings, whether there is no room for it, its offset, and how many bytes it adds to them.
 struct Place {
+    known: bool,
     full: bool,
     offset: usize,
     added: usize,
@@ -94,21 +97,35 @@ fn place_of(w: Record, strings: &[u8], name: &[u8]) -> Place
     let used = w.strings_used;
     match fdt_strings::intern_string(&strings[..used], w.strings_room, name) {
         Interned::Known(offset) => Place {
+            known: true,
             full: false,
             offset,
             added: 0,
         },
         Interned::New(offset) => Place {
+            known: false,
             full: false,
             offset,
             added: name.len() + 1,
         },
         Interned::StringRoom => Place {
+            known: false,
             full: true,
             offset: 0,
             added: 0,
         },
     }
+}
+
+// Whether the open node already has a property of the name at this place.
+fn is_repeated(w: Record, blob: &[u8], place: Place) -> bool
+    requires { ⌜ (w .«node_start» ≤ w .«blob_used») × (w .«blob_used» ≤ length (now blob)) ⌝ }
+    ensures { λ r. ⌜ r ≡ (place .known && lookBack (now (blob .entry)) (w .«blob_used») (place .offset) (w .«node_start»)) ⌝ }
+{
+    if !place.known {
+        return false;
+    }
+    fdt_look_back::look_back(blob, w.node_start, w.blob_used, place.offset)
 }
 
 // The record after a property: `len` bytes of value, and `added` bytes for its name.
@@ -123,10 +140,13 @@ fn after_property(w: Record, len: usize, added: usize) -> Record
     after
 }
 
-// The tests of the rooms: 15, 14.
-fn room_tests(full: bool, after: Record) -> Answer
-    ensures { λ r. ⌜ r ≡ first ((full ⇒ StringRoom) ∷ (overfull after ⇒ BlobRoom) ∷ []) ⌝ }
+// The tests of the name's place and of the rooms: 20, 15, 14.
+fn place_tests(repeated: bool, full: bool, after: Record) -> Answer
+    ensures { λ r. ⌜ r ≡ first ((repeated ⇒ DuplicateProperty) ∷ (full ⇒ StringRoom) ∷ (overfull after ⇒ BlobRoom) ∷ []) ⌝ }
 {
+    if repeated {
+        return Answer::DuplicateProperty;
+    }
     if full {
         return Answer::StringRoom;
     }
@@ -151,9 +171,10 @@ fn property_tests(w: Record, blob: &[u8], strings: &[u8], name: &[u8], value: Me
         };
     }
     let place = place_of(w, strings, name);
+    let repeated = is_repeated(w, blob, place);
     let after = after_property(w, value.len, place.added);
     Tested {
-        answer: room_tests(place.full, after),
+        answer: place_tests(repeated, place.full, after),
         offset: place.offset,
         added: place.added,
         after,

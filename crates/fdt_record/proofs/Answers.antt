@@ -7,7 +7,7 @@ use types.Run.{OneOf, miss}
 use denote.Enum.Declared.{tagOf}
 use Rattle.fdt_record.proofs.Answer.{the-type}
 use Rattle.fdt_record.specs.declared.Answer.{Answer}
-use Rattle.fdt_record.specs.declared.Answer.the-variants.{Done, PropertyBeforeBeginNode, PropertyAfterEndNode, PropertyValueTooLarge, TotalSizeTooLarge, InvalidString, OutOfOrderEndNode, UnclosedNode, InvalidMemoryReservation, OverlappingMemoryReservations, InvalidNodeName, InvalidPropertyName, NodeDepthTooLarge, DuplicatePhandle, BlobRoom, StringRoom, PhandleRoom, Misfit, Finished, TooManyReservations}
+use Rattle.fdt_record.specs.declared.Answer.the-variants.{Done, PropertyBeforeBeginNode, PropertyAfterEndNode, PropertyValueTooLarge, TotalSizeTooLarge, InvalidString, OutOfOrderEndNode, UnclosedNode, InvalidMemoryReservation, OverlappingMemoryReservations, InvalidNodeName, InvalidPropertyName, NodeDepthTooLarge, DuplicatePhandle, BlobRoom, StringRoom, PhandleRoom, Misfit, Finished, TooManyReservations, DuplicateProperty}
 use Rattle.fdt_record.specs.declared.Outcome.{Outcome}
 use Rattle.fdt_record.specs.declared.Record.{Record}
 use Rattle.fdt_record.specs.Answers.{accepts, upon}
@@ -72,10 +72,11 @@ accepts-done PhandleRoom e = absurd (true≢false (sym e))
 accepts-done Misfit e = absurd (true≢false (sym e))
 accepts-done Finished e = absurd (true≢false (sym e))
 accepts-done TooManyReservations e = absurd (true≢false (sym e))
+accepts-done DuplicateProperty e = absurd (true≢false (sym e))
 
 -- the tags of the refusals, as one arm for all of them has them
 abbrev refusalTags : List ℕ
-refusalTags = 1 ∷ 2 ∷ 3 ∷ 4 ∷ 5 ∷ 6 ∷ 7 ∷ 8 ∷ 9 ∷ 10 ∷ 11 ∷ 12 ∷ 13 ∷ 14 ∷ 15 ∷ 16 ∷ 17 ∷ 18 ∷ 19 ∷ []
+refusalTags = 1 ∷ 2 ∷ 3 ∷ 4 ∷ 5 ∷ 6 ∷ 7 ∷ 8 ∷ 9 ∷ 10 ∷ 11 ∷ 12 ∷ 13 ∷ 14 ∷ 15 ∷ 16 ∷ 17 ∷ 18 ∷ 19 ∷ 20 ∷ []
 
 pub not-done : (answer : Answer) → OneOf refusalTags (tagOf the-type answer) → accepts answer ≡ false
 unfolding accepts
@@ -99,3 +100,4 @@ not-done PhandleRoom h = refl
 not-done Misfit h = refl
 not-done Finished h = refl
 not-done TooManyReservations h = refl
+not-done DuplicateProperty h = refl

@@ -59,12 +59,15 @@ pub record FitBlob (w : Record) (lent : ℕ) : Type 0 where
   pub used : w .«blob_used» ≤ w .«blob_room»
   pub aligned : w .«blob_used» % 4 ≡ 0
   pub started : structureStart (w .reservations) ≤ w .«blob_used»
+  pub start : w .«node_start» ≤ w .«blob_used»
 
 pub fit-blob : (w : Record) (lent : ℕ) → misfitBlob w lent ≡ false → FitBlob w lent
 unfolding misfitBlob offStructure
 fit-blob w lent e =
     let n = neither (misfitRoom blobCeiling lent (w .«blob_room») (w .«blob_used»)) _ e in
-    let m = neither (not (eqb (w .«blob_used» % 4) 0)) _ (n .1) in
+    let k = neither (offStructure (w .reservations) (w .«blob_used»)) _ (n .1) in
+    let m = neither (not (eqb (w .«blob_used» % 4) 0)) _ (k .0) in
+    let l = neither (offStructure (w .reservations) (w .«node_start»)) _ (k .1) in
     let r = fit-room blobCeiling lent (w .«blob_room») (w .«blob_used») (n .0) in
     record {
       room = r .room;
@@ -73,6 +76,7 @@ fit-blob w lent e =
       used = r .used;
       aligned = eqb-true (w .«blob_used» % 4) 0 (not-false _ (m .0));
       started = ltb-false (w .«blob_used») (structureStart (w .reservations)) (m .1);
+      start = ltb-false (w .«blob_used») (w .«node_start») (l .1);
     }
 
 pub record FitStrings (w : Record) (strings : List ℕ) : Type 0 where

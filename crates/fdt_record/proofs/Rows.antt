@@ -108,6 +108,19 @@ pub record Exactly (rows : List Row) (answer : Answer) : Type 0 where
 pub exactly : (rows : List Row) → Refusals rows → Exactly rows (first rows)
 exactly rows r = record { accepted = accepted-exactly rows r; refused = refused-exactly rows }
 
+-- an answer that only one row has is given exactly when that row holds and no earlier one does; `other` tells answers from it
+pub only-row : (other : Answer → Bool) (before : List Row) (b : Bool) (a : Answer) (behind : List Row) → other Done ≡ true → other a ≡ false → allAnswers other before ≡ true → allAnswers other behind ≡ true
+    → (first (before ++ (b ⇒ a) ∷ behind) ≡ a) ↔ (NoneHolds before × (b ≡ true))
+unfolding first NoneHolds allAnswers
+only-row other [] true a behind d n p q = (λ e. (tt, refl), λ h. refl)
+only-row other [] false a behind d n p q =
+    (λ e. absurd (true≢false (sym (first-answers other behind d q) ∙ ap other e ∙ n)), λ h. absurd (true≢false (sym (h .1))))
+only-row other ((true ⇒ c) ∷ before) b a behind d n p q =
+    (λ e. absurd (true≢false (sym (both (other c) (allAnswers other before) p .0) ∙ ap other e ∙ n)), λ h. absurd (true≢false (h .0 .0)))
+only-row other ((false ⇒ c) ∷ before) b a behind d n p q =
+    let r = only-row other before b a behind d n (both (other c) (allAnswers other before) p .1) q in
+    (λ e. let h = r .0 e in ((refl, h .0), h .1), λ h. r .1 (h .0 .1, h .1))
+
 -- rows after rows: the later ones answer where none of the earlier holds
 pub first-append : (rows more : List Row) → Refusals rows → first (rows ++ more) ≡ upon (first rows) (first more) (first rows)
 unfolding first accepts

@@ -1,11 +1,11 @@
--- The numbers of document 01, "When the desk says no", for each answer.
+-- The numbers of document 01, "When the desk says no", for each answer; 20 is that of document 02, request 4/14.
 use Prim.Native.Nat.{ℕ}
 use mathlib.Core.Bool.{Bool, cond}
 use lib.Dec.{eqb}
 use Rattle.fdt_record.specs.declared.Answer.{Answer}
-use Rattle.fdt_record.specs.declared.Answer.the-variants.{Done, PropertyBeforeBeginNode, PropertyAfterEndNode, PropertyValueTooLarge, TotalSizeTooLarge, InvalidString, OutOfOrderEndNode, UnclosedNode, InvalidMemoryReservation, OverlappingMemoryReservations, InvalidNodeName, InvalidPropertyName, NodeDepthTooLarge, DuplicatePhandle, BlobRoom, StringRoom, PhandleRoom, Misfit, Finished, TooManyReservations}
+use Rattle.fdt_record.specs.declared.Answer.the-variants.{Done, PropertyBeforeBeginNode, PropertyAfterEndNode, PropertyValueTooLarge, TotalSizeTooLarge, InvalidString, OutOfOrderEndNode, UnclosedNode, InvalidMemoryReservation, OverlappingMemoryReservations, InvalidNodeName, InvalidPropertyName, NodeDepthTooLarge, DuplicatePhandle, BlobRoom, StringRoom, PhandleRoom, Misfit, Finished, TooManyReservations, DuplicateProperty}
 
--- document 01's number of an answer; acceptance is 0
+-- the number of an answer; acceptance is 0
 abbrev pub numberOf : Answer → ℕ
 numberOf Done = 0
 numberOf PropertyBeforeBeginNode = 1
@@ -27,6 +27,7 @@ numberOf PhandleRoom = 16
 numberOf Misfit = 17
 numberOf Finished = 18
 numberOf TooManyReservations = 19
+numberOf DuplicateProperty = 20
 
 -- the answer is acceptance
 unfoldable pub accepts : Answer → Bool

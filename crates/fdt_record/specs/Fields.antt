@@ -10,6 +10,7 @@ pub data Number : Type 0 where
   used-strings : Number
   used-phandles : Number
   depth : Number
+  start : Number
   boot : Number
 
 -- the flags that calls set: whether a node was ended last, and whether the record is marked finished
@@ -23,7 +24,8 @@ numberPlace used-blob = 0
 numberPlace used-strings = 1
 numberPlace used-phandles = 2
 numberPlace depth = 3
-numberPlace boot = 4
+numberPlace start = 4
+numberPlace boot = 5
 
 abbrev flagPlace : Flag → ℕ
 flagPlace ended = 0
@@ -55,6 +57,7 @@ setting s w = record {
   «phandles_used» = newNumber used-phandles s (w .«phandles_used»);
   reservations = w .reservations;
   «node_depth» = newNumber depth s (w .«node_depth»);
+  «node_start» = newNumber start s (w .«node_start»);
   «boot_cpuid_phys» = newNumber boot s (w .«boot_cpuid_phys»);
   «node_ended» = newFlag ended s (w .«node_ended»);
   finished = newFlag finish s (w .finished);
@@ -71,6 +74,9 @@ withUsedPhandles n = setting (number used-phandles n)
 
 abbrev pub withDepth : ℕ → Record → Record
 withDepth n = setting (number depth n)
+
+abbrev pub withStart : ℕ → Record → Record
+withStart n = setting (number start n)
 
 abbrev pub withBoot : ℕ → Record → Record
 withBoot n = setting (number boot n)

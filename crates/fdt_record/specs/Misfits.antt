@@ -20,10 +20,14 @@ misfitRoom ceiling lent room used = not (eqb (usable ceiling lent) room) || ltb 
 unfoldable pub offStructure : (reservations place : ℕ) → Bool
 offStructure reservations place = not (eqb (place % 4) 0) || ltb place (structureStart reservations)
 
--- of the blob: either of these, or used is outside the structure
+-- of the blob: either of these, or used is outside the structure, or where the open node's properties start is outside it or above used
+-- (document 02, request 4/14)
 unfoldable pub misfitBlob : Record → ℕ → Bool
 misfitBlob w lent =
-    misfitRoom blobCeiling lent (w .«blob_room») (w .«blob_used») || offStructure (w .reservations) (w .«blob_used»)
+    misfitRoom blobCeiling lent (w .«blob_room») (w .«blob_used»)
+    || (offStructure (w .reservations) (w .«blob_used»)
+    || (offStructure (w .reservations) (w .«node_start»)
+    || ltb (w .«blob_used») (w .«node_start»)))
 
 -- of the strings: either of these, or used is non-zero with a last used byte other than 0
 unfoldable pub misfitStrings : Record → List ℕ → Bool

@@ -25,6 +25,7 @@ pub const MAX_RESERVATIONS: usize = 64;
 pub const FDT_MAX_NODE_DEPTH: usize = 64;
 
 // What a writer knows of the calls so far and of its buffers: of each the usable length at opening (room) and how much is used.
+// `node_start` is the place in the blob where the open node's properties start.
 #[repr(C)]
 pub struct Record {
     pub blob_room: usize,
@@ -35,6 +36,7 @@ pub struct Record {
     pub phandles_used: usize,
     pub reservations: usize,
     pub node_depth: usize,
+    pub node_start: usize,
     pub boot_cpuid_phys: u32,
     pub node_ended: bool,
     pub finished: bool,
@@ -82,6 +84,8 @@ pub enum Answer {
     Finished,
     // 19: more than 64 reservations.
     TooManyReservations,
+    // 20: the open node already has a property of this name.
+    DuplicateProperty,
 }
 
 // An answer, and the new record.
@@ -90,7 +94,7 @@ pub struct Outcome {
     pub after: Record,
 }
 
-// Document 01's number of an answer.
+// The number of an answer in documents 01 and 02.
 pub fn number(answer: Answer) -> u32
     ensures { λ r. ⌜ r ≡ numberOf answer ⌝ }
 {
@@ -115,6 +119,7 @@ pub fn number(answer: Answer) -> u32
         Answer::Misfit => 17,
         Answer::Finished => 18,
         Answer::TooManyReservations => 19,
+        Answer::DuplicateProperty => 20,
     }
 }
 
@@ -172,7 +177,13 @@ pub fn misfit_blob(w: Record, lent: usize) -> bool
     if misfit_room(BLOB_CEILING, lent, w.blob_room, w.blob_used) {
         return true;
     }
-    off_structure(w.reservations, w.blob_used)
+    if off_structure(w.reservations, w.blob_used) {
+        return true;
+    }
+    if off_structure(w.reservations, w.node_start) {
+        return true;
+    }
+    w.blob_used < w.node_start
 }
 
 // Whether the record does not fit these strings.

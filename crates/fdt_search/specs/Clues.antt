@@ -31,7 +31,7 @@ Nowhere s c from to = (gap : ℕ) → gap < to → from ≤ gap → HasClues s c
 abbrev pub NextGap : List ℕ → Clues → ℕ → ℕ → ℕ → Type 0
 NextGap s c from to gap = (from ≤ gap) × (gap ≤ to) × Nowhere s c from gap
 
--- for every gap before `to`, the bytes that the clues ask for are in the strings
+-- for every gap before `to`, the bytes that the clues ask for are in s
 pub record Readable (s : List ℕ) (c : Clues) (to : ℕ) : Type 0 where
   pub first : to + c .first .at ≤ length s
   pub second : to + c .second .at ≤ length s

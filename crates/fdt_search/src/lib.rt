@@ -1,5 +1,6 @@
 // The search for a name in the strings area. It looks for three bytes at 32 gaps at a time, and compares the whole entry
-// only where all three are. A gap is the place before the name: if the name is an entry there, the gap has a 0.
+// only where all three are. A gap is the place from which the places of the three bytes are counted. For a name it is the
+// place before the name: if the name is an entry there, the gap has a 0. fdt_properties searches for its own three bytes.
 ghost use mathlib.Core.Path.{_≡_};
 ghost use mathlib.Core.Bool.{true};
 ghost use mathlib.Core.Logic.{_↔_};
@@ -11,17 +12,17 @@ ghost use Rattle.fdt_search.specs.FirstEntry.{PlainByte, EntryAt, FirstE
 // The byte after each entry.
 const END: u8 = 0;
 
-// A byte to look for, and its place counted from the gap: at 0 the 0 before the name, then the name, then the 0 after it.
-struct Clue {
-    at: usize,
-    byte: u8,
+// A byte to look for, and its place counted from the gap. For a name, at 0 the 0 before it, then its bytes, then the 0 after it.
+pub struct Clue {
+    pub at: usize,
+    pub byte: u8,
 }
 
-// Three bytes to look for, the newest first.
-struct Clues {
-    first: Clue,
-    second: Clue,
-    third: Clue,
+// Three bytes to look for. For a name, the newest first.
+pub struct Clues {
+    pub first: Clue,
+    pub second: Clue,
+    pub third: Clue,
 }
 
 // The clue of a name at a place counted from the gap.
@@ -102,8 +103,8 @@ fn gap_between(s: &[u8], from: usize, to: usize, c: Clues) -> usize
     to
 }
 
-// The same, but 32 gaps at a time.
-fn next_gap(s: &[u8], from: usize, to: usize, c: Clues) -> usize
+// The first gap from `from` on that has the clues; `to` if none before it does. Tests 32 gaps at a time.
+pub fn next_gap(s: &[u8], from: usize, to: usize, c: Clues) -> usize
     requires { ⌜ (from ≤ to) × Readable (now s) c to ⌝ }
     ensures { λ r. ⌜ NextGap (now (s .entry)) c from to r ⌝ }
 {

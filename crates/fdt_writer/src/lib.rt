@@ -105,7 +105,7 @@ impl FdtWriter {
     }
 
     // Writes a property of the open node: a name and the bytes of its value.
-    // Refused 18, 17, 2, 1, 5, 11, 15, 14, in this order.
+    // Refused 18, 17, 2, 1, 5, 11, 20, 15, 14, in this order.
     pub fn property(self, blob: &mut [u8], strings: &mut [u8], name: &[u8], val: &[u8]) -> Answered
         ensures { λ r. ⌜ ((phandles : List ℕ) → Called (property (now (name .entry)) (now (val .entry))) (deskOf (self .0) (now (blob .entry)) (now (strings .entry)) phandles) (r .answer) (deskOf (r .writer .0) (now (blob .exit)) (now (strings .exit)) phandles)) ⌝ }
     {
@@ -113,7 +113,7 @@ impl FdtWriter {
     }
 
     // Writes a property with an empty value.
-    // Refused 18, 17, 2, 1, 5, 11, 15, 14, in this order.
+    // Refused 18, 17, 2, 1, 5, 11, 20, 15, 14, in this order.
     pub fn property_null(self, blob: &mut [u8], strings: &mut [u8], name: &[u8]) -> Answered
         ensures { λ r. ⌜ ((phandles : List ℕ) → Called (property-null (now (name .entry))) (deskOf (self .0) (now (blob .entry)) (now (strings .entry)) phandles) (r .answer) (deskOf (r .writer .0) (now (blob .exit)) (now (strings .exit)) phandles)) ⌝ }
     {
@@ -121,7 +121,7 @@ impl FdtWriter {
     }
 
     // Writes a property whose value is one string and a 0.
-    // Refused 18, 17, 5 for a string, 2, 1, 5 for the name, 11, 15, 14, in this order.
+    // Refused 18, 17, 5 for a string, 2, 1, 5 for the name, 11, 20, 15, 14, in this order.
     pub fn property_string(
         self,
         blob: &mut [u8],
@@ -135,7 +135,7 @@ impl FdtWriter {
     }
 
     // Writes a property whose value is a list of strings, each with a 0. They are given as their joined bytes and their lengths.
-    // Refused 18, 17, 5 for a string, 2, 1, 5 for the name, 11, 15, 14, in this order.
+    // Refused 18, 17, 5 for a string, 2, 1, 5 for the name, 11, 20, 15, 14, in this order.
     pub fn property_string_list(
         self,
         blob: &mut [u8],
@@ -150,7 +150,7 @@ impl FdtWriter {
     }
 
     // Writes a property whose value is one number of 4 bytes.
-    // Refused 18, 17, 2, 1, 5, 11, 15, 14, in this order.
+    // Refused 18, 17, 2, 1, 5, 11, 20, 15, 14, in this order.
     pub fn property_u32(
         self,
         blob: &mut [u8],
@@ -164,7 +164,7 @@ impl FdtWriter {
     }
 
     // Writes a property whose value is one number of 8 bytes.
-    // Refused 18, 17, 2, 1, 5, 11, 15, 14, in this order.
+    // Refused 18, 17, 2, 1, 5, 11, 20, 15, 14, in this order.
     pub fn property_u64(
         self,
         blob: &mut [u8],
@@ -178,7 +178,7 @@ impl FdtWriter {
     }
 
     // Writes a property whose value is a list of numbers of 4 bytes each.
-    // Refused 18, 17, 2, 1, 5, 11, 15, 14, in this order.
+    // Refused 18, 17, 2, 1, 5, 11, 20, 15, 14, in this order.
     pub fn property_array_u32(
         self,
         blob: &mut [u8],
@@ -192,7 +192,7 @@ impl FdtWriter {
     }
 
     // Writes a property whose value is a list of numbers of 8 bytes each.
-    // Refused 18, 17, 2, 1, 5, 11, 15, 14, in this order.
+    // Refused 18, 17, 2, 1, 5, 11, 20, 15, 14, in this order.
     pub fn property_array_u64(
         self,
         blob: &mut [u8],
@@ -206,7 +206,7 @@ impl FdtWriter {
     }
 
     // Records a phandle in the table and writes the property `phandle`. Once 13 and 16 are passed the value stays recorded, even if the property is refused.
-    // Refused 18, 17, 13, 16, 2, 1, 15, 14, in this order.
+    // Refused 18, 17, 13, 16, 2, 1, 20, 15, 14, in this order.
     pub fn property_phandle(
         self,
         blob: &mut [u8],

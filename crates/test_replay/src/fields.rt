@@ -5,12 +5,12 @@ use text_lines::numbers;
 use text_lines::said;
 
 // The names, in the order of a report.
-const NAMES: [u8; 133] =
+const NAMES: [u8; 144] =
     *b"blob_room blob_used strings_room strings_used phandles_room phandles_used \
-    reservations node_depth boot_cpuid_phys node_ended finished";
+    reservations node_depth node_start boot_cpuid_phys node_ended finished";
 
 // The fields as numbers, in their order.
-pub fn apart(r: Record) -> [u64; 11] {
+pub fn apart(r: Record) -> [u64; 12] {
     [
         r.blob_room as u64,
         r.blob_used as u64,
@@ -20,6 +20,7 @@ pub fn apart(r: Record) -> [u64; 11] {
         r.phandles_used as u64,
         r.reservations as u64,
         r.node_depth as u64,
+        r.node_start as u64,
         r.boot_cpuid_phys as u64,
         r.node_ended as u64,
         r.finished as u64,
@@ -38,9 +39,10 @@ fn with(before: Record, place: usize, n: u64) -> Record {
         5 => r.phandles_used = n as usize,
         6 => r.reservations = n as usize,
         7 => r.node_depth = n as usize,
-        8 => r.boot_cpuid_phys = numbers::low(n),
-        9 => r.node_ended = n != 0,
-        10 => r.finished = n != 0,
+        8 => r.node_start = n as usize,
+        9 => r.boot_cpuid_phys = numbers::low(n),
+        10 => r.node_ended = n != 0,
+        11 => r.finished = n != 0,
         _ => {}
     }
     r
@@ -48,7 +50,7 @@ fn with(before: Record, place: usize, n: u64) -> Record {
 
 // A record with the field set that the line names.
 pub fn set(r: Record, line: &[u8]) -> Record {
-    let place = text_words::place(&NAMES, 11, text_words::word(line, 1));
+    let place = text_words::place(&NAMES, 12, text_words::word(line, 1));
     with(r, place, numbers::number(line, 2))
 }
 

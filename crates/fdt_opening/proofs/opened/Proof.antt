@@ -6,7 +6,7 @@ use Rattle.fdt_opening.proofs.opened.Tie as tie
 
 returns : tie.Need-returns
 unfolding openedRecord
-returns c = simp (c .before .before .before .usable-length .ensures, c .before .before .structure-start .ensures, c .before .usable-length2 .ensures, c .usable-length3 .ensures)
+returns c = simp (c .before .before .before .structure-start .ensures, c .before .before .usable-length .ensures, c .before .usable-length2 .ensures, c .usable-length3 .ensures)
 
 pub opened-spec : {M : Type 1} → statement M
 opened-spec =

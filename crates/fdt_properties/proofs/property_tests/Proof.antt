@@ -33,27 +33,30 @@ returns c =
 place-of-requires : tie.Need-place-of-requires
 place-of-requires c κs = let f = fits c .names in omega (arith, f .used, f .within)
 
+is-repeated-requires : tie.Need-is-repeated-requires
+is-repeated-requires c κs = let f = fits (c .before) .blob-fits in (f .start, omega (arith, f .used, f .within))
+
 after-property-requires : tie.Need-after-property-requires
 unfolding roundUp
 after-property-requires c κs =
-    let s = begun (c .before .before .before) in
-    let f = fits (c .before) in
+    let s = begun (c .before .before .before .before) in
+    let f = fits (c .before .before) in
     let p = settled (s .args .w) (s .args .strings .now) (s .args .name .now) (f .names) in (
       omega (arith, padding-small 4 (s .args .value .len) (lit< tt), f .blob-fits .used, f .blob-fits .small, s .pre),
-      omega (arith, c .place-of .ensures .added-is, p .used, f .names .small),
+      omega (arith, c .before .place-of .ensures .added-is, p .used, f .names .small),
     )
 
 returns-2 : tie.Need-returns-2
 returns-2 c =
-    let p = c .before .before .before in
+    let p = c .before .before .before .before in
     let a = begun (p .before .before) .args in
-    answered-second (a .w) (a .blob .now) (a .strings .now) (a .name .now) (a .value) (p .before .before .first-tests .ensures) (went p) (c .before .before .place-of .ensures) (c .before .after-property .ensures) (c .room-tests .ensures)
+    answered-second (a .w) (a .blob .now) (a .strings .now) (a .name .now) (a .value) (p .before .before .first-tests .ensures) (went p) (c .before .before .before .place-of .ensures) (c .before .before .is-repeated .ensures) (c .before .after-property .ensures) (c .place-tests .ensures)
 
 pub property-tests-spec : {M : Type 1} → statement M
 property-tests-spec =
     tie.close
     (tie.spec
     (λ c κs. search needs) (λ c κs. search needs)
-    returns place-of-requires after-property-requires
+    returns place-of-requires is-repeated-requires after-property-requires
     (λ c κs. search needs)
     returns-2)
