@@ -97,7 +97,7 @@ pub fn property_size(blob: &[u8], at: usize, end: usize) -> usize
     if read_u32(blob, at) != FDT_PROP {
         return 0;
     }
-    let size = 12 + round_up(read_u32(blob, at + 4) as usize, 4);
+    let size = 12 + (read_u32(blob, at + 4) as usize + 3) / 4 * 4;
     if left < size {
         return 0;
     }

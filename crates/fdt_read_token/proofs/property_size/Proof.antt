@@ -1,12 +1,18 @@
 -- `property_size` makes the tests of `wholeAt` in their order.
+use mathlib.Core.Path.{_≡_}
+use Prim.Native.Nat.{ℕ, _+_, _*_, _/_}
 use native.Mathlib.Omega.{arith}
 use borrow.Author.Needs.{needs}
 use borrow.Author.Tests.{le-leb, lt-leb, eq-eqb, ne-eqb}
-use Rattle.fdt_bytes.specs.Padding.{roundUp}
-use Rattle.fdt_bytes.proofs.Padding.{padding-small}
+use Rattle.fdt_bytes.specs.Padding.{padding, roundUp}
 use Rattle.fdt_format.specs.Step.{wholeAt, sizeAt}
 use Rattle.fdt_read_token.proofs.property_size.Statement.{statement}
 use Rattle.fdt_read_token.proofs.property_size.Tie as tie
+
+-- rounding up to a multiple of 4, as the code does it
+rounded : (n : ℕ) → roundUp 4 n ≡ (n + 3) / 4 * 4
+unfolding roundUp padding
+rounded n = omega arith
 
 returns : tie.Need-returns
 unfolding sizeAt wholeAt
@@ -16,33 +22,29 @@ returns-2 : tie.Need-returns-2
 unfolding sizeAt wholeAt
 returns-2 c = rw (le-leb _ _ (c .before .before .if1 .left), ← c .before .read-u32 .ensures, ne-eqb _ _ (c .if2 .taken))
 
-add-size : tie.Need-add-size
-unfolding roundUp
-add-size c = rw (c .round-up .ensures) (omega (arith, padding-small 4 (c .before .read-u322 .result) (omega arith)))
-
 returns-3 : tie.Need-returns-3
 unfolding sizeAt wholeAt
 returns-3 c =
-    let first = c .before .before .before .before in
+    let first = c .before .before .before in
     rw (
       le-leb _ _ (first .before .if1 .left),
       ← first .read-u32 .ensures,
-      eq-eqb _ _ (c .before .before .before .if2 .left),
-      ← c .before .before .read-u322 .ensures,
-      ← c .before .round-up .ensures,
+      eq-eqb _ _ (c .before .before .if2 .left),
+      ← c .before .read-u322 .ensures,
+      rounded (c .before .read-u322 .result),
       lt-leb _ _ (c .if3 .taken),
     )
 
 returns-4 : tie.Need-returns-4
 unfolding sizeAt wholeAt
 returns-4 c =
-    let first = c .before .before .before .before in
+    let first = c .before .before .before in
     rw (
       le-leb _ _ (first .before .if1 .left),
       ← first .read-u32 .ensures,
-      eq-eqb _ _ (c .before .before .before .if2 .left),
-      ← c .before .before .read-u322 .ensures,
-      ← c .before .round-up .ensures,
+      eq-eqb _ _ (c .before .before .if2 .left),
+      ← c .before .read-u322 .ensures,
+      rounded (c .before .read-u322 .result),
       le-leb _ _ (c .if3 .left),
     )
 
@@ -54,7 +56,6 @@ property-size-spec =
     returns
     (λ c κs. search needs)
     returns-2
-    (λ c. search needs) (λ c κs. search needs) (λ c. search needs) (λ c κs. search needs)
-    add-size
+    (λ c. search needs) (λ c κs. search needs) (λ c. search needs) (λ c. search needs) (λ c. search needs) (λ c. search needs)
     returns-3
     returns-4)
