@@ -14,8 +14,8 @@ fn wrong(mut d: Desk, n: u64, form: usize) -> Desk {
     d
 }
 
-// Makes the call of line n; says what is wrong with it, or why it is refused.
-fn run_line(d: Desk, n: u64, line: &[u8], l: Line) -> Desk {
+// Makes the call of line n; says what is wrong with it, or why it is refused. `before` are the lines before it.
+fn run_line(d: Desk, n: u64, before: &[u8], line: &[u8], l: Line) -> Desk {
     if !l.right {
         return wrong(d, n, l.verb);
     }
@@ -23,7 +23,9 @@ fn run_line(d: Desk, n: u64, line: &[u8], l: Line) -> Desk {
         return wrong(d, n, told::LATE);
     }
     let next = calls::run(d, line, l);
-    if next.stop != 0 {
+    if next.stop == told::TWICE {
+        told::twice(n, l.verb, before, line::name(line, l.name, l.end));
+    } else if next.stop != 0 {
         told::refused(n, l.verb, next.stop);
     }
     next
@@ -53,12 +55,13 @@ pub fn run(lines: &[u8]) {
     let mut at = 0;
     let mut n = 0;
     while at < lines.len() {
-        let line = line::cut(text_words::piece(lines, at, b'\n'));
+        let before = text_words::part(lines, 0, at);
+        let line = line::at(lines, at);
         at = text_words::next(lines, at, b'\n');
         n = std::num::wrapping_add_u64(n, 1);
         let l = line::read(line);
         if l.verb != verbs::BLANK {
-            d = run_line(d, n, line, l);
+            d = run_line(d, n, before, line, l);
             if d.stop != 0 {
                 return;
             }

@@ -5,8 +5,8 @@ use crate::texts;
 use crate::texts::Texts;
 use crate::verbs;
 
-// The call; where its name begins and ends, and where its values begin; its last two numbers; whether the line is right:
-// a call in its form, or no call.
+// The call; where its name begins and ends (a phandle's is the word `phandle`), and where its values begin; its last two numbers;
+// whether the line is right: a call in its form, or no call.
 pub struct Line {
     pub verb: usize,
     pub name: usize,
@@ -71,7 +71,7 @@ fn most(verb: usize) -> u64 {
 }
 
 // A line without a carriage return at its end.
-pub fn cut(line: &[u8]) -> &[u8] {
+fn cut(line: &[u8]) -> &[u8] {
     if line.len() == 0 {
         return line;
     }
@@ -84,12 +84,22 @@ pub fn cut(line: &[u8]) -> &[u8] {
     text_words::part(line, 0, to)
 }
 
+// The line of a list that begins at this place.
+pub fn at(lines: &[u8], from: usize) -> &[u8] {
+    let rest = text_words::part(lines, from, lines.len());
+    cut(text_words::piece(rest, 0, b'\n'))
+}
+
 // The call of a line and its name; a line that makes no call is right.
-fn head(line: &[u8]) -> Line {
+pub fn head(line: &[u8]) -> Line {
     let from = run_end(line, 0, true);
     let to = run_end(line, from, false);
     let verb = verbs::of(text_words::part(line, from, to));
-    let name = run_end(line, to, true);
+    let name = if verb == verbs::PHANDLE {
+        from
+    } else {
+        run_end(line, to, true)
+    };
     let end = run_end(line, name, false);
     Line {
         verb,

@@ -1,7 +1,9 @@
 // The message for a list that is wrong or refused: one line on standard error.
+use crate::nodes;
+use crate::nodes::Nodes;
 use libc::STDERR_FILENO;
 
-// What each refusal means, by its number.
+// What each refusal up to 19 means, by its number.
 const REFUSALS: [u8; 796] = *b"\n\
     , a property must be inside a node\n\
     , properties must come before child nodes\n\
@@ -56,6 +58,9 @@ const FORMS: [u8; 605] = *b"expected: reserve ADDRESS SIZE\n\
 // The place of the last of them: a late reservation.
 pub const LATE: usize = 12;
 
+// The refusal that names the node and the property.
+pub const TWICE: u32 = 20;
+
 // Writes bytes as they are.
 pub fn text(s: &[u8]) {
     io::write_all(STDERR_FILENO, s);
@@ -75,10 +80,45 @@ pub fn wrong(n: u64, form: usize) {
     text(b"\n");
 }
 
-// Says that the call of line n is refused or, at the end of the list, the finish.
-pub fn refused(n: u64, verb: usize, refusal: u32) {
+// Writes the call of line n that is refused or, at the end of the list, the finish; and the number of the refusal.
+fn refusal(n: u64, verb: usize, number: u32) {
     line(n, &CALLS, verb);
-    io::print_decimal(STDERR_FILENO, refusal as u64);
-    text(text_words::nth(&REFUSALS, refusal as usize, b'\n'));
+    io::print_decimal(STDERR_FILENO, number as u64);
+}
+
+// Says that the call of line n is refused.
+pub fn refused(n: u64, verb: usize, number: u32) {
+    refusal(n, verb, number);
+    text(text_words::nth(&REFUSALS, number as usize, b'\n'));
     text(b"\n");
+}
+
+// Writes the path of the last open node: the names of the open nodes, a slash before each. A root without a name is a slash alone,
+// and adds nothing to the paths below it.
+fn path(lines: &[u8], v: Nodes) {
+    let begins = v.begins;
+    let depth = text_words::least(v.depth, nodes::DEEPEST);
+    let mut k = 0;
+    while k < depth {
+        let name = nodes::name(lines, begins[k]);
+        if 0 < k || 0 < name.len() || depth == 1 {
+            text(b"/");
+        }
+        text(name);
+        k += 1;
+    }
+}
+
+// Says that the property of line n is refused because its node has one of this name, and which of the lines before gave it.
+pub fn twice(n: u64, verb: usize, before: &[u8], name: &[u8]) {
+    let v = nodes::after(before, name);
+    let given = v.given;
+    refusal(n, verb, TWICE);
+    text(b", ");
+    path(before, v);
+    text(b" already has ");
+    text(name);
+    text(b" (line ");
+    io::print_decimal(STDERR_FILENO, given);
+    text(b")\n");
 }
