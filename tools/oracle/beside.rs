@@ -1,4 +1,5 @@
 // The unchanged crate, run beside the model: wherever it can make a call, its answer and its private state are held to the model's.
+use crate::history::{property_of, History};
 use crate::model::{value_bytes, Call, Model, Outcome, Value};
 use std::fmt::Write;
 use vm_fdt::{Error, FdtReserveEntry, FdtWriter, FdtWriterNode, FdtWriterResult};
@@ -156,8 +157,8 @@ fn state(w: &FdtWriter, room: &mut String) -> State {
     }
 }
 
-// Whether the crate's state is the model's.
-fn same(s: &State, m: &Model) -> bool {
+// Whether the crate's state is the model's, and the history's place where the open node's properties start is.
+fn same(s: &State, h: &History, m: &Model) -> bool {
     let r = &m.record;
     let fits = r.blob_used as usize <= m.blob.len()
         && r.strings_used as usize <= m.strings.len()
@@ -175,6 +176,7 @@ fn same(s: &State, m: &Model) -> bool {
         && s.depth == r.node_depth
         && s.ended == r.node_ended
         && s.boot == r.boot_cpuid_phys
+        && h.start == r.node_start
 }
 
 // A writer of the crate, and the calls that brought it where it is.
@@ -182,11 +184,14 @@ pub struct Beside {
     writer: Option<FdtWriter>,
     opening: Vec<u64>,
     calls: Vec<Call>,
+    history: History,
     changed: bool,
     in_step: bool,
     room: String,
     // how many calls were made on the crate
     pub asked: u64,
+    // what the history says of the last call
+    pub corners: Vec<&'static str>,
 }
 
 impl Beside {
@@ -195,10 +200,12 @@ impl Beside {
             writer: None,
             opening: Vec::new(),
             calls: Vec::new(),
+            history: History::new(0),
             changed: false,
             in_step: false,
             room: String::new(),
             asked: 0,
+            corners: Vec::new(),
         }
     }
 
@@ -211,7 +218,7 @@ impl Beside {
     pub fn before(&mut self, model: &Model) {
         if self.changed {
             self.changed = false;
-            self.in_step = self.writer.as_ref().is_some_and(|w| same(&state(w, &mut self.room), model));
+            self.in_step = self.writer.as_ref().is_some_and(|w| same(&state(w, &mut self.room), &self.history, model));
         }
     }
 
@@ -226,13 +233,31 @@ impl Beside {
 
     // Makes the call that the model answered, where the crate can make it.
     pub fn call(&mut self, call: &Call, found: Outcome, model: &Model) -> Result<(), String> {
+        self.corners.clear();
         match call {
             Call::New => self.opened(&[], found, model),
             Call::NewWithMemReserv(numbers) => self.opened(numbers, found, model),
             _ if !self.in_step => Ok(()),
             Call::Finish => self.finished(found, model),
-            _ => self.made(call, found, model),
+            _ => {
+                self.told(call, found)?;
+                self.history.call(call, found.number, model.record.blob_used);
+                self.made(call, found, model)
+            }
         }
+    }
+
+    // 20 is given exactly for the names that the open node has by the calls so far; what else the history says is kept.
+    fn told(&mut self, call: &Call, found: Outcome) -> Result<(), String> {
+        let (Some(name), 0 | 14 | 15 | 20) = (property_of(call), found.number) else { return Ok(()) };
+        let has = self.history.has(name);
+        if has != (found.number == 20) {
+            return Err(format!("the open node has the name: {has}, and the model answers {}", found.number));
+        }
+        if found.number == 0 {
+            self.corners = self.history.corners(name);
+        }
+        Ok(())
     }
 
     fn agree(&self, what: &str, crate_says: u32, found: Outcome) -> Result<(), String> {
@@ -246,7 +271,7 @@ impl Beside {
     // The crate's state is the model's after a call.
     fn same_state(&mut self, model: &Model) -> Result<(), String> {
         let found = state(self.writer.as_ref().unwrap(), &mut self.room);
-        if same(&found, model) {
+        if same(&found, &self.history, model) {
             Ok(())
         } else {
             Err(format!("the states differ: the crate has {found:?}, the model {:?}", model.record))
@@ -271,6 +296,7 @@ impl Beside {
             self.writer = Some(w);
             self.opening = numbers.to_vec();
             self.calls.clear();
+            self.history = History::new(model.record.blob_used);
             self.in_step = true;
             self.same_state(model)?;
         }
@@ -316,10 +342,13 @@ impl Beside {
         match found.number {
             // the crate has no lengths that could not fit, and no table that could be full
             16 | 17 => return self.same_state(model),
-            14 | 15 => {
+            14 | 15 | 20 => {
                 self.asked += 1;
                 let taken = make(&mut self.again(), call).0;
-                self.agree("without a limit", taken, Outcome { number: 0, ..found })?;
+                self.agree("without a limit, and with a name twice", taken, Outcome { number: 0, ..found })?;
+                if found.number == 20 {
+                    self.corners.push("crate-takes-20");
+                }
                 if let Call::PropertyPhandle(_) = call {
                     // its value is recorded and its property refused: so it is before any node, and the order of phandles is not kept
                     self.calls.insert(0, call.clone());

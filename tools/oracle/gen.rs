@@ -1,7 +1,7 @@
 // Call lists: random ones from a seed, in blocks of several kinds, and every short input of a small set.
 // The model is run along, so that a block knows where it stands: few calls go to closed writers, and rooms are met exactly.
 use crate::list::{line, prepare, Step};
-use crate::model::{Call, Model, Value};
+use crate::model::{Call, Model, Record, Value};
 use crate::shared::{Rng, LONGEST};
 
 // A list so far, and where the model stands after it.
@@ -518,19 +518,34 @@ fn filled(r: &mut Rng, l: &mut Lines, lent: [u64; 3], open: Call, calls: Vec<Cal
     ending(r, l);
 }
 
+// A place for the open node's properties: no multiple of 4, below the structure, above the used length, or one that fits
+// and where others stand or none.
+fn place_of_start(r: &mut Rng, rec: &Record, kind: u64) -> u64 {
+    let (structure, used) = (rec.structure() as u64, rec.blob_used);
+    match kind {
+        0 => rec.node_start + r.of(&[1, 2, 3]),
+        1 => r.of(&[structure - 4, structure - 16, 40, 0]),
+        2 => r.of(&[used + 4, rec.blob_room / 4 * 4, 1 << 32, u64::MAX - 3]),
+        _ => r.of(&[structure, used, structure + (used - structure) / 8 * 4]),
+    }
+}
+
+// Too many reservations, but so few that the structure still could begin behind them.
+fn few_too_many(r: &mut Rng, l: &mut Lines) {
+    l.set("reservations", r.of(&[65, 66]));
+    if l.m.record.blob_room >= 1112 {
+        l.set("blob_used", 1112);
+        l.set("node_start", 1112)
+    }
+}
+
 // One reason for a misfit, brought about in a run that goes well.
 fn break_one(r: &mut Rng, l: &mut Lines) {
     let (rec, lent) = (l.m.record, l.m.lent);
     let above = |usable: u64, extra: u64| usable.div_ceil(4) * 4 + 4 * extra;
-    match r.below(13) {
+    match r.below(17) {
         0 => l.set("node_depth", r.of(&[65, 66, 128, 1 << 32, (1 << 32) + 3, u64::MAX])),
-        1 => {
-            // so many that the structure still could begin there
-            l.set("reservations", r.of(&[65, 66]));
-            if rec.blob_room >= 1112 {
-                l.set("blob_used", 1112)
-            }
-        }
+        1 => few_too_many(r, l),
         2 => l.set("reservations", r.of(&[65, 1 << 60, (1 << 60) + 1, u64::MAX])),
         3 => l.lend([r.of(&[lent[0] + 1, lent[0] + 4, lent[0] - 1, rec.blob_used as usize, 0]), lent[1], lent[2]]),
         4 => l.set(
@@ -551,6 +566,7 @@ fn break_one(r: &mut Rng, l: &mut Lines) {
                 l.set("strings_room", rec.strings_room - 1)
             }
         }
+        kind @ 13..=16 => l.set("node_start", place_of_start(r, &rec, kind - 13)),
         _ => l.set("strings_used", rec.strings_used + 1),
     }
     if r.once_in(10) {
@@ -649,6 +665,41 @@ fn foreign_call(r: &mut Rng, m: &Model) -> Call {
     }
 }
 
+// Puts such strings, some bytes of a blob and a table into the buffers: how many bytes of strings and how many
+// phandles there are.
+fn foreign_buffers(r: &mut Rng, l: &mut Lines) -> [u64; 2] {
+    let strings = foreign_strings(r);
+    let used = strings.len() as u64;
+    l.step(Step::PutStrings(0, strings));
+    if r.once_in(2) {
+        let n = r.below(40);
+        let b = bytes(r, n);
+        l.step(Step::PutBlob(r.below(100), b))
+    }
+    let table = (0..r.below(5)).map(|_| r.below(8) as u32).collect::<Vec<_>>();
+    let count = table.len() as u64;
+    l.step(Step::PutPhandles(0, table));
+    [used, count]
+}
+
+// Sets every field of the record: all fit, or all but one, or any may not.
+fn foreign_record(r: &mut Rng, l: &mut Lines, [used, count]: [u64; 2]) {
+    let (usable, n) = ([0, 1, 2].map(|k| l.m.usable(k)), r.of(&[0, 0, 0, 1, 2]));
+    let room = r
+        .of(&[56 + 16 * n, 60 + 16 * n, 100, usable[0] / 4 * 4, usable[0].saturating_sub(16) / 4 * 4])
+        .min(usable[0] / 4 * 4);
+    let start = r.of(&[56 + 16 * n, room, 60 + 16 * n, 56 + 16 * n + room.saturating_sub(56 + 16 * n) / 8 * 4]);
+    let rooms = [usable[0], room, usable[1], used.min(usable[1]), usable[2], count.min(usable[2])];
+    let fits = [&rooms[..], &[n, r.below(66), start, 5]].concat();
+    let (spoiled, one) = (r.below(4), r.below(10) as usize);
+    for (k, name) in crate::model::FIELDS.iter().take(10).enumerate() {
+        let n = if spoiled == 0 || spoiled == 1 && k == one { field(r, fits[k]) } else { fits[k] };
+        l.set(name, n);
+    }
+    l.set("node_ended", r.below(4) / 3);
+    l.set("finished", r.below(12) / 11);
+}
+
 // A record and buffers of any kind, and a few calls.
 fn foreign(r: &mut Rng, l: &mut Lines) {
     let mut lent = [r.of(&[60, 64, 72, 100, 128, 160, 300, 300, 1]) + r.below(3), 20 + r.below(50), r.below(6)];
@@ -658,31 +709,8 @@ fn foreign(r: &mut Rng, l: &mut Lines) {
     }
     l.step(Step::Buffers(lent));
     for _ in 0..1 + r.below(3) {
-        let strings = foreign_strings(r);
-        let used = strings.len() as u64;
-        l.step(Step::PutStrings(0, strings));
-        if r.once_in(2) {
-            let n = r.below(40);
-            let b = bytes(r, n);
-            l.step(Step::PutBlob(r.below(100), b))
-        }
-        let table = (0..r.below(5)).map(|_| r.below(8) as u32).collect::<Vec<_>>();
-        let count = table.len() as u64;
-        l.step(Step::PutPhandles(0, table));
-        let (usable, n) = ([0, 1, 2].map(|k| l.m.usable(k)), r.of(&[0, 0, 0, 1, 2]));
-        let room = r
-            .of(&[56 + 16 * n, 60 + 16 * n, 100, usable[0] / 4 * 4, usable[0].saturating_sub(16) / 4 * 4])
-            .min(usable[0] / 4 * 4);
-        let fits =
-            [usable[0], room, usable[1], used.min(usable[1]), usable[2], count.min(usable[2]), n, r.below(66), 5];
-        // all fields fit, or all but one, or any may not
-        let (spoiled, one) = (r.below(4), r.below(9) as usize);
-        for (k, name) in crate::model::FIELDS.iter().take(9).enumerate() {
-            let n = if spoiled == 0 || spoiled == 1 && k == one { field(r, fits[k]) } else { fits[k] };
-            l.set(name, n);
-        }
-        l.set("node_ended", r.below(4) / 3);
-        l.set("finished", r.below(12) / 11);
+        let used = foreign_buffers(r, l);
+        foreign_record(r, l, used);
         for _ in 0..1 + r.below(6) {
             let call = foreign_call(r, &l.m);
             l.call(call);
@@ -709,6 +737,9 @@ fn beyond(r: &mut Rng, l: &mut Lines) {
     l.set("phandles_used", r.below(6));
     for _ in 0..6 {
         if r.once_in(2) {
+            l.call(Call::BeginNode(Vec::new()));
+        }
+        if r.once_in(2) {
             let value = r.of(&[1, 2, 3, 4, 5, 0xeeee_eeee]);
             l.call(Call::PropertyPhandle(value));
         } else {
@@ -717,6 +748,211 @@ fn beyond(r: &mut Rng, l: &mut Lines) {
         }
     }
     ending(r, l);
+}
+
+// A property of a kind; the phandle's name is its own.
+fn property_of(r: &mut Rng, kind: u64, name: &str) -> Call {
+    match kind {
+        PHANDLE => Call::PropertyPhandle(r.below(1_000) as u32),
+        _ => Call::Property(name.into(), value(r, kind)),
+    }
+}
+
+// A few names in nodes, children and siblings, each of them again and again, some after an attempt that is refused; with
+// enough room, or with strings and a blob that are soon full.
+fn repeated(r: &mut Rng, l: &mut Lines) {
+    let names = ["phandle", r.of(&["reg", "cells", "s"]), "status"];
+    let bytes: u64 = names.iter().map(|name| name.len() as u64 + 1).sum();
+    let lent = [100 + r.below(300), bytes + r.of(&[0, 0, 1, 30]), 4 + r.below(12)];
+    let open = r.of(&[Call::New, Call::NewWithMemReserv(vec![4096, 1, 0, 1])]);
+    if !opened(r, l, lent, open) {
+        return;
+    }
+    l.call(Call::BeginNode(Vec::new()));
+    for _ in 0..10 + r.below(16) {
+        let (name, kind, depth) = (r.of(&names), PHANDLE + r.below(KINDS - PHANDLE), l.m.record.node_depth);
+        let call = match r.below(10) {
+            0 | 1 => Call::BeginNode(Vec::new()),
+            2 if depth > 0 => Call::EndNode(depth),
+            3 => Call::Property(name.into(), Value::Text(vec![0])),
+            _ => property_of(r, kind, name),
+        };
+        l.call(call);
+    }
+    ending(r, l);
+}
+
+// Entries twice, tails of others, an empty one, and one that is no property's name.
+const LOOKED: &[u8] = b"reg\0#reg\0phandle\0reg\0a@\0\0cells\0xphandle\0phandle\0";
+
+// The offset that the next new name gets.
+const NEXT: u32 = LOOKED.len() as u32;
+
+// Numbers as the 4 bytes of each.
+fn words(all: &[u32]) -> Vec<u8> {
+    all.iter().flat_map(|n| n.to_be_bytes()).collect()
+}
+
+// What can stand where a look back goes: a whole property, one whose length is another, and words that are none.
+fn piece(r: &mut Rng) -> Vec<u8> {
+    let offset = r.of(&[0, 0, 4, 5, 9, 9, 17, 21, 21, 24, 25, 31, 32, 40, NEXT, NEXT, u32::MAX]);
+    match r.below(14) {
+        0 => words(&[4]),
+        1 => words(&[r.of(&[0, 1, 2, 5, 9, 0x0300_0000, 0x0100_0003])]),
+        2 => words(&[3, u32::MAX - r.of(&[0, 1, 2, 3, 7, 11, 15]), offset]),
+        3 => words(&[3, r.below(60) as u32, offset]),
+        4 => words(&[3, offset]),
+        _ => {
+            let n = r.of(&[0, 0, 0, 1, 3, 4, 5, 8]);
+            [words(&[3, n, offset]), bytes(r, n.div_ceil(4) as u64 * 4)].concat()
+        }
+    }
+}
+
+// A record and a blob in which other properties stand than were written, whole ones and others, and calls that look back.
+fn looked(r: &mut Rng, l: &mut Lines) {
+    l.step(Step::Buffers([400 + r.below(60), LOOKED.len() as u64 + r.of(&[0, 1, 9]), 40]));
+    l.call(r.of(&[Call::New, Call::NewWithMemReserv(vec![4096, 1, 0, 1])]));
+    l.call(Call::BeginNode(b"a".to_vec()));
+    l.step(Step::PutStrings(0, LOOKED.to_vec()));
+    l.set("strings_used", LOOKED.len() as u64);
+    let start = l.m.record.node_start;
+    for _ in 0..4 {
+        let all: Vec<u8> = (0..1 + r.below(5)).flat_map(|_| piece(r)).collect();
+        // the last may be cut, and what is cut off still stands there
+        let used = all.len() as u64 - 4 * r.of(&[0, 0, 0, 1, 2, 3]).min(all.len() as u64 / 4);
+        l.step(Step::PutBlob(start, all));
+        l.set("blob_used", start + used);
+        l.set("node_start", if r.once_in(8) { start - r.of(&[4, 8]) } else { start });
+        l.set("node_depth", r.of(&[1, 1, 1, 1, 64, 0]));
+        l.set("node_ended", r.below(8) / 7);
+        for _ in 0..1 + r.below(3) {
+            let kind = PHANDLE + r.below(KINDS - PHANDLE);
+            let name = r.of(&["reg", "reg", "cells", "phandle", "a@", "a@", "", "new", "new"]);
+            let call = property_of(r, kind, name);
+            l.call(call);
+        }
+    }
+    ending(r, l);
+}
+
+// What a look back for `phandle` (offset 9) meets, and how many bytes of it are used: stops before the property, cut ones,
+// other entries of the name, and two that it passes.
+fn scenes() -> Vec<(Vec<u8>, u64)> {
+    let behind = |front: &[u32]| [words(front), words(&[3, 0, 9])].concat();
+    let whole = |bytes: Vec<u8>| (bytes.len() as u64, bytes);
+    let all = [
+        whole(behind(&[4])),
+        whole(behind(&[2])),
+        (4, behind(&[])),
+        (8, behind(&[])),
+        (12, words(&[3, 4, 9, 0])),
+        whole(behind(&[3, u32::MAX, 0])),
+        whole(words(&[3, 0, 40])),
+        whole(words(&[3, 0, 32])),
+        whole(behind(&[3, 0, u32::MAX])),
+        whole(behind(&[3, 1, 0, 0x61ff_ffff])),
+    ];
+    all.into_iter().map(|(used, bytes)| (bytes, used)).collect()
+}
+
+// A property of a kind, after an opening and a begin, with such bytes where its look back goes.
+fn scene(r: &mut Rng, l: &mut Lines, bytes: &[u8], used: u64, call: (u64, &str), state: Option<&str>) {
+    l.step(Step::Buffers([500, LOOKED.len() as u64, 4]));
+    l.call(Call::New);
+    l.call(Call::BeginNode(Vec::new()));
+    l.step(Step::PutStrings(0, LOOKED.to_vec()));
+    l.set("strings_used", LOOKED.len() as u64);
+    l.step(Step::PutBlob(64, bytes.to_vec()));
+    l.set("blob_used", 64 + used);
+    match state {
+        Some("node_depth") => l.set("node_depth", 0),
+        Some(flag) => l.set(flag, 1),
+        None => {}
+    }
+    let call = property_of(r, call.0, call.1);
+    l.call(call);
+}
+
+// Every kind of property in every such scene; and where 1, 2 or 11 comes before 20.
+fn looks(r: &mut Rng, l: &mut Lines) {
+    for kind in PHANDLE..KINDS {
+        for (bytes, used) in scenes() {
+            scene(r, l, &bytes, used, (kind, "phandle"), None);
+        }
+        for state in ["node_depth", "node_ended"] {
+            scene(r, l, &words(&[3, 0, 9]), 12, (kind, "phandle"), Some(state));
+        }
+        // the phandle's name is its own
+        if kind != PHANDLE {
+            scene(r, l, &words(&[3, 0, 21]), 12, (kind, "a@"), None);
+        }
+    }
+}
+
+// A value of a few hundred bytes: of a kind, or plain bytes where none of the kind is so long.
+fn long_value(kind: u64) -> Value {
+    match kind {
+        7 => Value::Text(vec![b'a'; 300]),
+        8 => Value::Texts(vec![b'a'; 300], vec![300]),
+        11 => Value::U32s(vec![1; 75]),
+        12 => Value::U64s(vec![1; 38]),
+        _ => Value::Bytes(vec![b'a'; 300]),
+    }
+}
+
+// A property of every kind, after one that is refused 14: of a name that is new, and of one that the node around has.
+fn after_no_room(r: &mut Rng, l: &mut Lines) {
+    for (kind, around) in (PHANDLE..KINDS).flat_map(|kind| [(kind, false), (kind, true)]) {
+        l.step(Step::Buffers([300, 16, 4]));
+        l.call(Call::New);
+        l.call(Call::BeginNode(Vec::new()));
+        if around {
+            l.call(Call::Property(b"phandle".to_vec(), Value::Null));
+            l.call(Call::BeginNode(Vec::new()));
+        }
+        l.call(Call::Property(b"phandle".to_vec(), long_value(kind)));
+        while l.call(property_of(r, kind, "phandle")) != 0 {}
+    }
+}
+
+// Nodes with ever more properties, with names far into the strings; in each then its first, middle and last name again.
+fn long_nodes(l: &mut Lines) {
+    let name = |k: usize| format!("station,prop-{k:03}").into_bytes();
+    l.step(Step::Buffers([65_536, 8_192, 4]));
+    l.call(Call::New);
+    l.call(Call::BeginNode(Vec::new()));
+    for many in (1..=24).chain([40, 64]) {
+        l.call(Call::BeginNode(Vec::new()));
+        for k in 0..many {
+            l.call(Call::Property(name(k), Value::Bytes(vec![3; k % 9])));
+        }
+        for k in [0, many / 2, many - 1] {
+            l.call(Call::Property(name(k), Value::Null));
+        }
+        l.call(Call::EndNode(2));
+    }
+}
+
+// Every call that is lent a record and the blob, with the open node's properties at the structure's start and at the end.
+fn bounds(r: &mut Rng, l: &mut Lines) {
+    for (kind, at_the_end) in (0..KINDS).filter(|&kind| kind != BOOT).flat_map(|kind| [(kind, false), (kind, true)]) {
+        l.step(Step::Buffers([200, 40, 4]));
+        l.call(Call::New);
+        l.call(Call::BeginNode(b"a".to_vec()));
+        l.call(Call::Property(b"reg".to_vec(), Value::U32(1)));
+        if kind == FINISH {
+            l.call(Call::EndNode(1));
+        }
+        l.set("node_start", if at_the_end { l.m.record.blob_used } else { 56 });
+        let call = match kind {
+            BEGIN => Call::BeginNode(b"b".to_vec()),
+            END => Call::EndNode(1),
+            FINISH => Call::Finish,
+            _ => property_of(r, kind, "reg"),
+        };
+        l.call(call);
+    }
 }
 
 // Names that fill the strings at their ceiling, or one byte short of it.
@@ -735,14 +971,17 @@ fn many_names(r: &mut Rng, l: &mut Lines) {
 
 // Phandles that fill the table at its ceiling, or one entry short of it.
 fn many_phandles(r: &mut Rng, l: &mut Lines) {
-    let lent = [4_500, 16, r.of(&[255, 256, 257, 320])];
+    let lent = [7_500, 16, r.of(&[255, 256, 257, 320])];
     if !opened(r, l, lent, Call::New) {
         return;
     }
     l.call(Call::BeginNode(Vec::new()));
     for k in 0..258 {
+        l.call(Call::BeginNode(Vec::new()));
         l.call(Call::PropertyPhandle(k));
+        l.call(Call::EndNode(2));
     }
+    l.call(Call::BeginNode(Vec::new()));
     l.call(Call::PropertyPhandle(3));
     ending(r, l);
 }
@@ -760,13 +999,15 @@ fn long_values(r: &mut Rng, l: &mut Lines) {
     let n = 1000 + r.below(2000);
     let long = some(r, b"abc", n);
     l.call(Call::Property(b"text".to_vec(), Value::Text(long)));
-    while l.m.record.blob_used + 8_300 < 65_536 {
+    while l.m.record.blob_used + 8_400 < 65_536 {
+        l.call(Call::BeginNode(Vec::new()));
         let ns: Vec<u64> = (0..1_024).map(|_| r.below(10)).collect();
         let value = if r.once_in(3) { Value::U32s(ns.iter().map(|&n| n as u32).collect()) } else { Value::U64s(ns) };
         l.call(Call::Property(b"cells".to_vec(), value));
     }
-    // the end of the node, the last word and three names have to fit as well
-    let left = 65_536 - l.m.record.blob_used - 12 - 4 - 4 - l.m.record.strings_used;
+    // the ends of the nodes, the last word and three names have to fit as well
+    l.call(Call::BeginNode(Vec::new()));
+    let left = 65_536 - l.m.record.blob_used - 12 - 4 * l.m.record.node_depth - 4 - l.m.record.strings_used;
     let n = left + r.of(&[0, 0, 1, 4, 12, 16, 32]) - 8 * (left / 8);
     l.call(Call::Property(b"cells".to_vec(), Value::U64s(vec![0; (left / 8) as usize - 2])));
     l.call(Call::Property(b"text".to_vec(), Value::Bytes(vec![b'x'; n as usize])));
@@ -782,11 +1023,13 @@ pub fn random(seed: u64, bytes: usize) -> String {
         long_values(&mut r, &mut l);
     }
     while l.text.len() < bytes.min(LONGEST - 40_000) {
-        match r.below(40) {
+        match r.below(46) {
             0 => deep(&mut r, &mut l),
             1..=14 => plain(&mut r, &mut l),
             15..=24 => tight(&mut r, &mut l),
             25..=32 => broken(&mut r, &mut l),
+            33..=35 => repeated(&mut r, &mut l),
+            36..=38 => looked(&mut r, &mut l),
             _ => foreign(&mut r, &mut l),
         }
     }
@@ -794,16 +1037,25 @@ pub fn random(seed: u64, bytes: usize) -> String {
     l.text
 }
 
-// A fixed list of the blocks that meet rooms exactly and break records in one place, so that every run has all corners.
+// A fixed list of the blocks that meet rooms exactly, break records in one place and repeat names, so that every run has
+// all corners.
 pub fn corners() -> String {
     let (mut r, mut l) = (Rng(0), Lines::new());
     many_phandles(&mut r, &mut l);
+    long_nodes(&mut l);
+    for _ in 0..4 {
+        bounds(&mut r, &mut l);
+        looks(&mut r, &mut l);
+        after_no_room(&mut r, &mut l);
+    }
     while l.text.len() < 900_000 {
-        match r.below(40) {
+        match r.below(48) {
             0 => deep(&mut r, &mut l),
             1..=3 => plain(&mut r, &mut l),
             4..=23 => tight(&mut r, &mut l),
             24..=37 => broken(&mut r, &mut l),
+            38..=41 => repeated(&mut r, &mut l),
+            42..=45 => looked(&mut r, &mut l),
             _ => foreign(&mut r, &mut l),
         }
     }
@@ -856,7 +1108,7 @@ fn small_set() -> Vec<Call> {
         Call::Property(b"p".to_vec(), Value::Null),
         Call::PropertyPhandle(7),
         Call::Finish,
-        Call::Property(b"q".to_vec(), Value::U32(1)),
+        Call::PropertyPhandle(8),
     ]
 }
 

@@ -1,6 +1,8 @@
-// Writes call lists for test_replay, and predicts its output for them, by a model of document 01 that is compared with the crate.
+// Writes call lists for test_replay, and predicts its output for them, by a model of documents 01 and 02 that is compared
+// with the crate.
 mod beside;
 mod gen;
+mod history;
 mod list;
 mod model;
 mod shared;
@@ -15,7 +17,7 @@ use std::process::exit;
 const USAGE: &str = "usage: oracle gen SEED [BYTES]   a random list of about BYTES bytes (default: 1000000)
        oracle gen names          every short name over a small alphabet, as a node name and as a property name
        oracle gen calls PART     every sequence of five calls from a small set, in parts from 0 on; nothing past the last
-       oracle gen corners        a fixed list of buffers that are just full and records with one fault
+       oracle gen corners        a fixed list of buffers that are just full, records with one fault, and names twice
        oracle expect [COUNTS]    reads a list, writes what test_replay must write for it in quiet mode,
                                  and writes to the file COUNTS how often each call gave each answer";
 
@@ -57,10 +59,15 @@ fn predict(text: &str, out: &mut String, counts: &mut Counts) -> Result<(), Stri
         match list::parse(line).map_err(at)? {
             Step::Make(call) => {
                 crate_side.before(&m);
+                let bound = m.record.bound();
                 let found = m.call(&call);
                 crate_side.call(&call, found, &m).map_err(at)?;
                 report(out, found, &m);
-                count(counts, list::name(&call), &found.number.to_string(), found.cause);
+                let name = list::name(&call);
+                count(counts, name, &found.number.to_string(), found.cause);
+                let bound = if found.number == 0 && call.lent_a_record_and_the_blob() { bound } else { "" };
+                let corners = [bound, found.look].into_iter().chain(crate_side.corners.iter().copied());
+                corners.filter(|corner| !corner.is_empty()).for_each(|corner| count(counts, name, "", corner));
             }
             Step::Show => {
                 let (part, cause) = m.show();

@@ -1,4 +1,4 @@
-// A model of the writer, written from document 01 alone: the record, the buffers, every answer and every byte.
+// A model of the writer, written from documents 01 and 02 alone: the record, the buffers, every answer and every byte.
 // Sums are formed in 128 bits, so none wraps.
 
 // The buffers that a list is run over, and how much of each is usable at most.
@@ -10,7 +10,7 @@ const MOST_RESERVATIONS: u64 = 64;
 const MOST_DEPTH: u64 = 64;
 
 // The record's fields, in the order of a report.
-pub const FIELDS: [&str; 11] = [
+pub const FIELDS: [&str; 12] = [
     "blob_room",
     "blob_used",
     "strings_room",
@@ -19,6 +19,7 @@ pub const FIELDS: [&str; 11] = [
     "phandles_used",
     "reservations",
     "node_depth",
+    "node_start",
     "boot_cpuid_phys",
     "node_ended",
     "finished",
@@ -34,6 +35,7 @@ pub struct Record {
     pub phandles_used: u64,
     pub reservations: u64,
     pub node_depth: u64,
+    pub node_start: u64,
     pub boot_cpuid_phys: u32,
     pub node_ended: bool,
     pub finished: bool,
@@ -50,13 +52,14 @@ impl Record {
         phandles_used: 0,
         reservations: 0,
         node_depth: 0,
+        node_start: 0,
         boot_cpuid_phys: 0,
         node_ended: false,
         finished: true,
     };
 
     // The fields as numbers, in their order.
-    pub fn apart(&self) -> [u64; 11] {
+    pub fn apart(&self) -> [u64; 12] {
         [
             self.blob_room,
             self.blob_used,
@@ -66,6 +69,7 @@ impl Record {
             self.phandles_used,
             self.reservations,
             self.node_depth,
+            self.node_start,
             self.boot_cpuid_phys as u64,
             self.node_ended as u64,
             self.finished as u64,
@@ -83,10 +87,26 @@ impl Record {
             "phandles_used" => self.phandles_used = n,
             "reservations" => self.reservations = n,
             "node_depth" => self.node_depth = n,
+            "node_start" => self.node_start = n,
             "boot_cpuid_phys" => self.boot_cpuid_phys = n as u32,
             "node_ended" => self.node_ended = n != 0,
             "finished" => self.finished = n != 0,
             _ => {}
+        }
+    }
+
+    // Where the structure starts.
+    pub fn structure(&self) -> u128 {
+        56 + 16 * self.reservations as u128
+    }
+
+    // At which bound alone the open node's properties start, if they do: of the structure's start and the used length.
+    pub fn bound(&self) -> &'static str {
+        let at = self.node_start as u128;
+        match (at == self.structure(), self.node_start == self.blob_used) {
+            (true, false) => "at-structure",
+            (false, true) => "at-end",
+            _ => "",
         }
     }
 }
@@ -117,20 +137,29 @@ pub enum Call {
     Finish,
 }
 
-// What a call answers. The cause says which of several reasons a refusal had, or which corner was met.
+impl Call {
+    // Whether it is lent a record and the blob.
+    pub fn lent_a_record_and_the_blob(&self) -> bool {
+        !matches!(self, Call::New | Call::NewWithMemReserv(_) | Call::SetBootCpuidPhys(_))
+    }
+}
+
+// What a call answers. The cause says which of several reasons a refusal had, or which corner was met. The look says how
+// the look back for an accepted property ended, if its name was stored.
 #[derive(Clone, Copy, PartialEq, Eq, Debug)]
 pub struct Outcome {
     pub number: u32,
     pub handle: u64,
     pub cause: &'static str,
+    pub look: &'static str,
 }
 
 fn accepted(cause: &'static str) -> Outcome {
-    Outcome { number: 0, handle: 0, cause }
+    Outcome { number: 0, handle: 0, cause, look: "" }
 }
 
 fn refused(number: u32, cause: &'static str) -> Outcome {
-    Outcome { number, handle: 0, cause }
+    Outcome { number, handle: 0, cause, look: "" }
 }
 
 // A refusal as the other side of a test.
@@ -248,7 +277,12 @@ impl Model {
             tell(usable != r.blob_room, "blob-length");
             tell(r.blob_used > usable, "blob-used-above");
             tell(r.blob_used % 4 != 0, "blob-used-odd");
-            tell((r.blob_used as u128) < 56 + 16 * r.reservations as u128, "blob-used-below");
+            let below = (r.blob_used as u128) < r.structure();
+            tell(below, "blob-used-below");
+            tell(r.node_start % 4 != 0, "node-start-odd");
+            // no place lies between the structure's start and a used length below it
+            tell(!below && (r.node_start as u128) < r.structure(), "node-start-below");
+            tell(!below && r.node_start > r.blob_used, "node-start-above");
         }
         if lent == Lent::BlobAndStrings || lent == Lent::All {
             let (usable, used) = (self.usable(1), r.strings_used);
@@ -300,6 +334,70 @@ impl Model {
         None
     }
 
+    // The number of 4 bytes at a place of the used blob, if they are inside.
+    fn word(&self, at: u128) -> Option<u32> {
+        let used = &self.blob[..self.record.blob_used as usize];
+        let at = usize::try_from(at).ok()?;
+        used.get(at..at.checked_add(4)?).map(|b| u32::from_be_bytes(b.try_into().unwrap()))
+    }
+
+    // The whole property at a place of the used blob, as its name's offset and where it ends; or what stands there.
+    fn whole_property(&self, at: u128) -> Result<(u32, u128), &'static str> {
+        match self.word(at) {
+            None => return Err("to-the-end"),
+            Some(3) => {}
+            Some(4) => return Err("word-4"),
+            Some(_) => return Err("other-word"),
+        }
+        let (Some(length), Some(offset)) = (self.word(at + 4), self.word(at + 8)) else {
+            return Err("cut-head");
+        };
+        let size = 12 + round_up(length as u128);
+        if at + size <= self.record.blob_used as u128 {
+            Ok((offset, at + size))
+        } else if size < 1 << 32 {
+            Err("cut-value")
+        } else {
+            Err("huge-length")
+        }
+    }
+
+    // Whether the open node has a property whose name has this offset: nothing where it has, and otherwise how the look
+    // back ended.
+    fn look_back(&self, name: &[u8], offset: u32) -> Option<&'static str> {
+        let (mut at, mut alike) = (self.record.node_start as u128, false);
+        loop {
+            match self.whole_property(at) {
+                Ok((found, _)) if found == offset => return None,
+                Ok((found, end)) => {
+                    alike |= self.named_at(name, found);
+                    at = end;
+                }
+                Err(_) if alike => return Some("other-offset"),
+                Err(stopped) => return Some(stopped),
+            }
+        }
+    }
+
+    // Whether the name and its 0 stand at an offset of the used strings.
+    fn named_at(&self, name: &[u8], offset: u32) -> bool {
+        let rest = self.used_strings().get(offset as usize..).unwrap_or(&[]);
+        rest.strip_prefix(name).is_some_and(|after| after.first() == Some(&0))
+    }
+
+    // 20 where the open node has the property; otherwise how the look back ended, if the name is stored. A refusal's cause
+    // is what a later test would refuse.
+    fn distinct(&self, name: &[u8], bytes: u128) -> Tested<&'static str> {
+        let Some(offset) = self.find(name) else { return Ok("") };
+        let full = self.record.strings_used == self.usable(1);
+        let cause = match self.room(bytes) {
+            Err(_) => "no-room",
+            Ok(_) if full => "strings-full",
+            Ok(_) => "",
+        };
+        self.look_back(name, offset as u32).ok_or(refused(20, cause))
+    }
+
     // Makes a call: its answer, and all that it changes.
     pub fn call(&mut self, call: &Call) -> Outcome {
         let answered = match call {
@@ -330,6 +428,7 @@ impl Model {
         bytes.extend([0; 16]);
         self.append(&bytes);
         self.record.reservations = pairs.len() as u64;
+        self.record.node_start = self.record.blob_used;
         self.record.blob_room = self.usable(0);
         self.record.strings_room = self.usable(1);
         self.record.phandles_room = self.usable(2);
@@ -352,7 +451,8 @@ impl Model {
         self.append(&[&[0, 0, 0, 1], name, &[0]].concat());
         self.record.node_depth += 1;
         self.record.node_ended = false;
-        Ok(Outcome { number: 0, handle: self.record.node_depth, cause })
+        self.record.node_start = self.record.blob_used;
+        Ok(Outcome { handle: self.record.node_depth, ..accepted(cause) })
     }
 
     fn end(&mut self, handle: u64) -> Tested<Outcome> {
@@ -380,14 +480,18 @@ impl Model {
 
     // From test 2 on: the same for every kind.
     fn write_property(&mut self, name: &[u8], value: &[u8]) -> Tested<Outcome> {
-        refuse_if(self.record.node_ended, 2, "")?;
-        refuse_if(self.record.node_depth == 0, 1, "")?;
+        let bytes = 12 + round_up(value.len() as u128);
+        let distinct = self.distinct(name, bytes);
+        let twice = if distinct.is_err() { "twice" } else { "" };
+        refuse_if(self.record.node_ended, 2, twice)?;
+        refuse_if(self.record.node_depth == 0, 1, twice)?;
         refuse_if(name.contains(&0), 5, "name")?;
-        refuse_if(!property_name(name), 11, "")?;
+        refuse_if(!property_name(name), 11, twice)?;
+        let look = distinct?;
         let (found, used) = (self.find(name), self.record.strings_used as usize);
         let (needed, usable) = (used + name.len() + 1, self.usable(1) as usize);
         refuse_if(found.is_none() && needed > usable, 15, if needed == usable + 1 { "one-short" } else { "" })?;
-        let cause = self.room(12 + round_up(value.len() as u128))?;
+        let cause = self.room(bytes)?;
         if found.is_none() {
             self.strings[used..needed - 1].copy_from_slice(name);
             self.strings[needed - 1] = 0;
@@ -395,7 +499,8 @@ impl Model {
         }
         let offset = found.unwrap_or(used) as u32;
         self.append(&[&[0, 0, 0, 3], &(value.len() as u32).to_be_bytes()[..], &offset.to_be_bytes(), value].concat());
-        Ok(accepted(if found.is_none() && needed == usable { "strings-full" } else { cause }))
+        let cause = if found.is_none() && needed == usable { "strings-full" } else { cause };
+        Ok(Outcome { look, ..accepted(cause) })
     }
 
     fn phandle(&mut self, n: u32) -> Tested<Outcome> {
