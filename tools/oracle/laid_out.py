@@ -1,4 +1,4 @@
-# What tools/test-fdt-write, tools/test-fdt-read and tools/outside-reader share: blobs, laid out from document 01.
+# What tools/test-fdt-write, tools/test-fdt-read, tools/outside and tools/outside-reader share: blobs, laid out from document 01.
 
 
 def word(*parts):

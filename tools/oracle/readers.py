@@ -219,6 +219,15 @@ def deleted(blob, parts):
             return file.read()
 
 
+def got(blob, path, name):
+    """A property's value in hex, as fdtget finds it by its name (fdt_getprop)."""
+    with tempfile.TemporaryDirectory() as room:
+        file = os.path.join(room, "blob")
+        with open(file, "wb") as out:
+            out.write(blob)
+        return "".join(byte.zfill(2) for byte in run(["fdtget", "-t", "bx", file, path, name]).decode("ascii").split())
+
+
 def blank_with_libfdt(parts):
     """Blanks parts of the blob on standard input with libfdt, and writes it."""
     library, blob = loaded(), bytes.fromhex(sys.stdin.read())
