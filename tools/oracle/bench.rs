@@ -81,13 +81,19 @@ impl Work {
 
     // So many nodes under a root, four properties each, of so many distinct names, with values of 1 to 4 times so many bytes.
     fn new(nodes: usize, kind: Names, many: usize, bytes: usize) -> Work {
+        Work::with(nodes, 4, kind, many, bytes)
+    }
+
+    // The same with so many properties each; no node has a name twice.
+    fn with(nodes: usize, each: usize, kind: Names, many: usize, bytes: usize) -> Work {
+        assert!(each <= many, "a node of a load has a name twice");
         let names: Vec<String> = (0..many).map(|k| name(kind, k)).collect();
         assert!(names.iter().collect::<HashSet<_>>().len() == many, "two names of a load are the same");
         let mut w = Work { calls: Vec::new(), text: String::new() };
         w.call(1, "", "");
         for i in 0..nodes {
             w.call(1, &format!("sensor@{i:x}"), "");
-            for k in i * 4..i * 4 + 4 {
+            for k in i * each..(i + 1) * each {
                 let value: String = (0..(k % 4 + 1) * bytes).map(|b| ((k * 7 + b) % 127) as u8 as char).collect();
                 w.call(3, &names[k % many], &value);
             }
@@ -165,6 +171,14 @@ fn main() {
         for many in [40, 320] {
             measure(&format!("{many} names, {alike}"), &Work::new(400, kind, many, 4), rounds);
         }
+    }
+    println!("\nas the properties of a node grow (1,984 properties, 64 names):");
+    for (nodes, each) in [(496, 4), (248, 8), (124, 16), (62, 32), (31, 64)] {
+        measure(
+            &format!("{nodes} nodes, {each} properties each"),
+            &Work::with(nodes, each, Names::Front, 64, 4),
+            rounds,
+        );
     }
     println!("\nas the values grow (40 nodes, 40 names):");
     for bytes in [4, 8, 16, 32, 64, 128] {
