@@ -1,13 +1,13 @@
 -- What is promised about the writer. Read this file first: it only states the promises, and the proofs are in the files beside it.
 -- The calls, their tests, answers and effects are defined in fdt_calls, specs/Calls.antt; a run in specs/Run.antt.
-use mathlib.Core.Path.{_≡_}
+use mathlib.Core.Path.{_≡_, refl, _∙_}
 use mathlib.Core.Bool.{true, false, _&&_, _||_}
 use mathlib.Core.List.{List, [], _++_, List·Memᴰ}
 use mathlib.Core.Logic.{_↔_}
 use mathlib.Core.Option.{some}
 use Prim.Native.Nat.{ℕ, _+_, _/_, _≤_, _<_, _^_}
 use lib.Dec.{eqb}
-use lib.ListN.{length}
+use lib.ListN.{length, take}
 use Rattle.fdt_bytes.specs.BigEndian.{wordAt, cellBytes}
 use Rattle.fdt_bytes.specs.Splice.{splice}
 use Rattle.fdt_strings.specs.Entries.{entry, joined}
@@ -45,24 +45,28 @@ use Rattle.fdt_reader.specs.Numbers.{Tells}
 use Rattle.fdt_reader.specs.Reader.{Read}
 use Rattle.fdt_record.specs.declared.Answer.{Answer}
 use Rattle.fdt_record.specs.declared.Answer.the-variants.{Done, Misfit, DuplicateProperty}
-use Rattle.fdt_record.specs.Answers.{accepts}
+use Rattle.fdt_record.specs.Answers.{accepts, numberOf}
 use Rattle.fdt_record.specs.Rows.{first}
 use Rattle.fdt_record.proofs.Rows.{NoneHolds, Given}
 use Rattle.fdt_opening.specs.Opening.{count}
 use Rattle.fdt_properties.specs.Property.{placeOf, isRepeated}
 use Rattle.fdt_phandles.specs.Phandle.{phandleName, phandleValue}
-use Rattle.fdt_calls.specs.Calls.{Call, property, property-string, property-u32, property-array-u32, property-array-u64, property-phandle, asks, to-have, to-mark, Desk, answer, rows, after, markAnswer, marked, unaltered}
+use Rattle.fdt_calls.specs.Calls.{Call, begin-node, finish, property, property-string, property-u32, property-array-u32, property-array-u64, property-phandle, asks, to-have, to-mark, Desk, answer, rows, after, markAnswer, marked, unaltered}
 use Rattle.fdt_calls.specs.Called.{Called, shownPart}
+use Rattle.fdt_calls.specs.Made.{Made, handleNumber, shownLength}
+use Rattle.fdt_calls.proofs.Made.{by-number, refused-at-other, refused-handle, front-shown, one-outcome as same-outcome}
 use Rattle.fdt_calls.proofs.OneOutcome.{one-called}
 use Rattle.fdt_calls.proofs.Refused.{refused-after}
 use Rattle.fdt_calls.proofs.Table.{Neither34, first-row, answers-exactly, never-given}
 use Rattle.fdt_promises.specs.Effects.{own, ownEntry, Changed, Alike}
-use Rattle.fdt_promises.specs.Run.{tells, reservationsOf, endedOf, Holds, FitDesk, Misgiven, Run, desk, history, eventsIn, bootIn, marksIn, description, Finishes, blob, Describes, OneMore}
+use Rattle.fdt_promises.specs.Run.{tells, reservationsOf, endedOf, Holds, FitDesk, Misgiven, Run, opened-desk, desk, history, eventsIn, bootIn, marksIn, description, Finishes, blob, Describes, OneMore}
+use Rattle.fdt_promises.specs.ByNumber.{NumberedRun, OfRun, numbersIn, DescribedBy}
 use Rattle.fdt_promises.specs.OpenNode.{openIn, openNames, rowsBefore20}
 use Rattle.fdt_promises.specs.Cases20.{cases20}
 use Rattle.fdt_promises.specs.ReadBack.{ReadBack}
 use Rattle.fdt_promises.specs.Examples.{emptyWords, nodeWords}
 use Rattle.fdt_promises.specs.Starred.{allHold, starred}
+use Rattle.fdt_promises.proofs.ByNumber.{own-run, opened-is, left-is, returned-is, finishes, shows-blob, same-by-number, by-its-numbers}
 use Rattle.fdt_promises.proofs.OpenNode.{left-open}
 use Rattle.fdt_promises.proofs.OwnBytes.{recorded-own, only-own}
 use Rattle.fdt_promises.proofs.PastUsable.{past-usable, shown-usable}
@@ -238,6 +242,48 @@ one-value-each r f e p m k = one-value (run-distinct r f e) p m k
 -- The request's cases, in one table: what each call of a list answers.
 pub cases-of-20 : allHold cases20 ≡ true
 cases-of-20 = cases-hold
+
+-- ---- answers by number, on a writer that is returned or lent (document 02, request 5/14)
+
+-- The calls of fdt_numbered state `Made`, each of its own call and of the writer that it returns; those of export_writer state it of the
+-- writer that they leave in the lent one. Two results that satisfy it are equal: the number, the record and every byte and entry lent.
+pub one-outcome-by-number : {c : Call} {s : Desk} {m n : ℕ} {t u : Desk} → Made c s m t → Made c s n u → (m ≡ n) × (t ≡ u)
+one-outcome-by-number p q = same-outcome p q
+
+-- A call of `FdtWriter`, or of fdt_face in place, is made so too, with the number of its answer.
+pub as-called : {c : Call} {s : Desk} {a : Answer} {t : Desk} → Called c s a t → Made c s (numberOf a) t
+as-called p = by-number p refl
+
+-- A call that does not return 0 alters neither the lent writer nor a buffer, except in the cases that `unaltered` names: a refused
+-- opening leaves the closed record, and a phandle that passed 13 and 16 stays recorded.
+pub demand-1-by-number : {c : Call} {s : Desk} {n : ℕ} {t : Desk} → Made c s n t → (n ≡ 0 → ⊥) → t ≡ unaltered (asks c) s
+demand-1-by-number {c} {s} p other = p .leaves ∙ refused-after s (asks c) (refused-at-other p other)
+
+-- A begin that does not return 0 gives the handle 0.
+pub no-handle : {name : List ℕ} {s : Desk} {n : ℕ} {t : Desk} → Made (begin-node name) s n t → (n ≡ 0 → ⊥) → handleNumber s name ≡ 0
+no-handle p other = refused-handle p other
+
+-- What is shown is the front of the blob, as long as the showing call says.
+pub shown-in-front : (s : Desk) → shownPart s ≡ take (shownLength s) (s .blob)
+shown-in-front s = front-shown s
+
+-- A run of such calls is the run of the same calls: after the opening and after the last call it has the same desk, and the numbers
+-- that it returned are those of the run's answers. So what is promised of every run holds of it.
+pub run-by-number : (f : NumberedRun) → (r : Run) × OfRun f r × (f .opened ≡ opened-desk r) × (f .left ≡ desk r) × (f .returned ≡ numbersIn r)
+run-by-number f = let (r, e) = own-run f in (r, e, opened-is f r e, left-is f r e, returned-is f r e)
+
+-- Every run is such a run.
+pub numbers-of-run : (r : Run) → (f : NumberedRun) × OfRun f r
+numbers-of-run r = by-its-numbers r
+
+-- A finish that returns 0 finishes the run, and what is shown then is the run's blob.
+pub finish-by-number : (f : NumberedRun) (r : Run) → OfRun f r → {u : Desk} → Made finish (f .left) 0 u → Finishes r × (shownPart u ≡ blob r)
+finish-by-number f r e finished = (finishes f r e finished, shows-blob f r e finished)
+
+-- Demand 3 through the face: two runs by numbers that are finished show the same bytes exactly when their calls describe the same thing.
+pub demand-3-by-number : (f g : NumberedRun) {u v : Desk} → Made finish (f .left) 0 u → Made finish (g .left) 0 v
+    → (shownPart u ≡ shownPart v) ↔ ((d : Description) × DescribedBy f d × DescribedBy g d)
+demand-3-by-number f g finished also = same-by-number f g finished also
 
 -- ---- words 4, which describe nothing (document 02, request 3/14)
 

@@ -1,3 +1,4 @@
+pub mod ByNumber
 pub mod Cases20
 pub mod Demands
 pub mod Described

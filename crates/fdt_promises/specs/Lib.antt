@@ -1,3 +1,4 @@
+pub mod ByNumber
 pub mod Cases20
 pub mod Effects
 pub mod Examples
