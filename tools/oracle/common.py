@@ -1,5 +1,5 @@
-# What tools/compare, tools/compare-reader, tools/compare-search, tools/outside, tools/mutants and tools/oracle/sample
-# share: building a judge, making lists, running programs, comparing what both write.
+# What tools/compare, tools/compare-face, tools/compare-reader, tools/compare-search, tools/outside, tools/mutants and
+# tools/oracle/sample share: building a judge, making lists, running programs, comparing what both write.
 import argparse
 import collections
 import concurrent.futures
@@ -66,13 +66,13 @@ def runner(program):
     return first + [loader, "--library-path", os.path.join(tools, "lib"), program]
 
 
-def built(folder, judge="oracle"):
-    """A judge, built into a folder."""
+def built(folder, judge="oracle", what="the judge"):
+    """A judge, or another program of tools/oracle/build, built into a folder."""
     done = subprocess.run([os.path.join(ORACLE, "build"), folder, judge], stderr=subprocess.PIPE, text=True)
     if done.returncode == 3:
         raise Trouble(3, done.stderr.strip().removeprefix("tools/oracle/build: not built: "))
     if done.returncode != 0:
-        raise Trouble(1, "the judge cannot be built:\n" + done.stderr.strip())
+        raise Trouble(1, what + " cannot be built:\n" + done.stderr.strip())
     return os.path.join(folder, judge)
 
 
@@ -120,13 +120,13 @@ class Kind:
             raise Trouble(1, self.first_difference(name, given, expected, found))
         return counts(place + ".counts")
 
-    def compared(self, o, judge):
-        """Compares all lists: the sum of their counts, and how many lists there were."""
+    def compared(self, o, judge, program=None):
+        """Compares all lists: the sum of their counts, and how many lists there were. The program is that of the options, unless its command is given."""
         try:
             os.makedirs(o.keep, exist_ok=True)
         except OSError as error:
             raise Trouble(1, f"{o.keep} cannot be made: {error.strerror}") from None
-        total, number, program = collections.Counter(), 0, runner(o.program)
+        total, number, program = collections.Counter(), 0, program or runner(o.program)
         with concurrent.futures.ThreadPoolExecutor(max(1, o.jobs)) as pool:
             waiting = [pool.submit(self.compare, name, command, judge, program, o.keep) for name, command in self.lists(judge, o.seeds, not o.no_short)]
             try:
@@ -137,25 +137,36 @@ class Kind:
                 pool.shutdown(cancel_futures=True)
         return total, number
 
-    def options(self, words, text, status):
-        """The command line of the tool."""
+    def parser(self, text, status):
+        """The command line of the tool, except how the program is named."""
         folder = os.path.join("build", self.tool)
         parser = argparse.ArgumentParser(prog="tools/" + self.tool, description=text, epilog=status, formatter_class=argparse.RawDescriptionHelpFormatter)
         parser.add_argument("seeds", nargs="?", type=seeds_of, default=seeds_of(self.seeds), metavar="SEEDS", help=f"how many seeds, or FIRST-LAST (default: {self.seeds})")
-        parser.add_argument("--program", default=os.path.join(BIN, self.program), metavar="FILE", help=f"the program to compare (default: target/bin/{self.program})")
         parser.add_argument("--keep", default=os.path.join(TOP, folder), metavar="FOLDER", help=f"where to keep lists that differ (default: {folder})")
         parser.add_argument("--jobs", type=int, default=min(2, os.cpu_count() or 1), metavar="N", help="how many lists to run at a time (default: 2)")
         parser.add_argument("--no-short", action="store_true", help="only the random lists, without the fixed ones; it needs --any-counts, because some cases occur only in the fixed lists")
         parser.add_argument("--any-counts", action="store_true", help="do not check or print what occurred")
+        return parser
+
+    def options(self, words, text, status):
+        """What a command line asks for."""
+        parser = self.parser(text, status)
+        parser.add_argument("--program", default=os.path.join(BIN, self.program), metavar="FILE", help=f"the program to compare (default: target/bin/{self.program})")
         return parser.parse_args(words)
 
     def main(self, o, beside, compared, verdict):
-        """Runs the tool, and says how it went: the exit status."""
-        began = time.monotonic()
-        try:
+        """Compares all lists, and says how it went: the exit status."""
+        def work():
             must_be_there(o.program, self.program)
             total, number = compared(o)
-            print(f"tools/{self.tool}: {number} lists, {verdict(total, o.any_counts)}: all the same ({time.monotonic() - began:.0f} s)")
+            return f"{number} lists, {verdict(total, o.any_counts)}: all the same"
+        return self.told_of(work, beside)
+
+    def told_of(self, work, beside):
+        """Does the work of the tool, and says how it went: the exit status."""
+        began = time.monotonic()
+        try:
+            print(f"tools/{self.tool}: {work()} ({time.monotonic() - began:.0f} s)")
             return 0
         except Trouble as trouble:
             sys.stdout.flush()
@@ -165,6 +176,7 @@ class Kind:
 
 
 REPLAY = Kind("test_replay", "oracle", "compare", ["names", "corners"], ["calls"], rb"(new|begin|end|property|finish|show)|set_boot", "8")
+FACE = Kind("face", "oracle", "compare-face", REPLAY.whole, REPLAY.in_parts, REPLAY.told, "4")
 READER = Kind("test_reader", "reader", "compare-reader", ["examples", "cut"], ["bytes", "words"], rb"(?!(put|lend) )", "8")
 SEARCH = Kind("test_leaves", "search", "compare-search", [], ["corners", "borders", "places", "alike", "names"], rb"", "64")
 
@@ -182,6 +194,26 @@ def check_counts(wanted, found, table):
         raise Trouble(1, "these did not occur: " + told(wanted - found))
     if found - wanted:
         raise Trouble(1, f"these occurred, and {table} does not list them: " + told(found - wanted))
+
+
+def check_calls(total):
+    """Trouble if something that tools/oracle/expected lists did not occur, or something else did."""
+    groups, wanted = {}, set()
+    with open(os.path.join(ORACLE, "expected"), encoding="ascii") as f:
+        for line in f:
+            front, colon, rest = line.split("#")[0].partition(":")
+            calls = [call for word in rest.split() for call in groups.get(word, [word])]
+            if front.startswith("@"):
+                groups[front] = calls
+            elif colon:
+                answer, _, cause = front.partition(" ")
+                wanted |= {(call, answer.strip("-"), cause) for call in calls}
+    check_counts(wanted, {k for k in total if k[0] != "crate" and k[2] != "several"}, "tools/oracle/expected")
+
+
+def calls_made(total):
+    """How many calls there were, without those that only show."""
+    return sum(n for k, n in total.items() if k[1])
 
 
 def expected_causes(path):

@@ -6,11 +6,10 @@ mod history;
 mod list;
 mod model;
 mod shared;
+mod told;
 
 use list::Step;
-use shared::check;
 use std::collections::BTreeMap;
-use std::fmt::Write as _;
 use std::io::{self, Read, Write};
 use std::process::exit;
 
@@ -20,29 +19,6 @@ const USAGE: &str = "usage: oracle gen SEED [BYTES]   a random list of about BYT
        oracle gen corners        a fixed list of buffers that are just full, records with one fault, and names twice
        oracle expect [COUNTS]    reads a list, writes what test_replay must write for it in quiet mode,
                                  and writes to the file COUNTS how often each call gave each answer";
-
-// A report line of quiet mode.
-fn report(out: &mut String, found: model::Outcome, m: &model::Model) {
-    write!(out, "{} {}", found.number, found.handle).unwrap();
-    m.record.apart().iter().for_each(|n| write!(out, " {n}").unwrap());
-    let [b, s, p] = m.lent;
-    let sums = [
-        check(m.blob[..b].iter().copied()),
-        check(m.strings[..s].iter().copied()),
-        check(m.phandles[..p].iter().flat_map(|n| n.to_be_bytes())),
-    ];
-    sums.iter().for_each(|n| write!(out, " {n}").unwrap());
-    out.push('\n');
-}
-
-fn shown(out: &mut String, part: &[u8]) {
-    write!(out, "{}", part.len()).unwrap();
-    if !part.is_empty() {
-        out.push(' ');
-    }
-    part.iter().for_each(|b| write!(out, "{b:02x}").unwrap());
-    out.push('\n');
-}
 
 // How often each call had each answer, and for which cause.
 type Counts = BTreeMap<(String, String, String), u64>;
@@ -62,7 +38,9 @@ fn predict(text: &str, out: &mut String, counts: &mut Counts) -> Result<(), Stri
                 let bound = m.record.bound();
                 let found = m.call(&call);
                 crate_side.call(&call, found, &m).map_err(at)?;
-                report(out, found, &m);
+                let [b, s, p] = m.lent;
+                let lent = told::Lent { blob: &m.blob[..b], strings: &m.strings[..s], phandles: &m.phandles[..p] };
+                told::report(out, [found.number as u64, found.handle], m.record.apart(), lent);
                 let name = list::name(&call);
                 count(counts, name, &found.number.to_string(), found.cause);
                 let bound = if found.number == 0 && call.lent_a_record_and_the_blob() { bound } else { "" };
@@ -71,7 +49,7 @@ fn predict(text: &str, out: &mut String, counts: &mut Counts) -> Result<(), Stri
             }
             Step::Show => {
                 let (part, cause) = m.show();
-                shown(out, part);
+                told::shown(out, part);
                 count(counts, "show", "", cause);
             }
             step => {
