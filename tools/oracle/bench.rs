@@ -1,5 +1,7 @@
 // Times the original and ours on the same calls: bytes compared first, then interleaved rounds.
 mod bench_time;
+#[path = "../../rust/geirovund.rs"]
+mod geirovund;
 
 use bench_time::{in_turn, line, rounds};
 use std::collections::HashSet;
@@ -141,8 +143,28 @@ fn ours(w: &Work, lent: &mut Lent) -> usize {
     }
 }
 
+// The same calls one by one, through the module for Rust and the exported functions.
+fn in_place(w: &Work, lent: &mut Lent) -> usize {
+    let buffers = geirovund::Buffers { blob: &mut lent.blob, strings: &mut lent.strings, phandles: &mut [] };
+    let (mut f, mut open) = (geirovund::FdtWriter::new(buffers).unwrap(), Vec::new());
+    for &[kind, a, b, c, d] in &w.calls {
+        match kind {
+            1 => open.push(f.begin_node(&w.text[a..b]).unwrap()),
+            2 => f.end_node(open.pop().unwrap()).unwrap(),
+            3 => f.property(&w.text[a..b], &w.text.as_bytes()[c..d]).unwrap(),
+            _ => break,
+        }
+    }
+    f.finish().unwrap().len()
+}
+
 // Compares the bytes, then times both in turn: one line of the report.
 fn measure(name: &str, w: &Work, rounds: usize) {
+    measure_as(ours, name, w, rounds);
+}
+
+// The same with one of the two ways to call ours.
+fn measure_as(ours: fn(&Work, &mut Lent) -> usize, name: &str, w: &Work, rounds: usize) {
     let mut lent = Lent { blob: vec![0xee; 65_536], strings: vec![0xee; 8_192] };
     let (theirs, n) = (original(w), ours(w, &mut lent));
     assert!(theirs == lent.blob[..n], "{name}: the blobs differ: {} bytes and {n}", theirs.len());
@@ -157,6 +179,10 @@ fn measure(name: &str, w: &Work, rounds: usize) {
 fn main() {
     let rounds = rounds();
     measure("500 nodes, 40 names", &Work::new(500, Names::Front, 40, 4), rounds);
+    println!("\na call at a time, through the module for Rust (40 names):");
+    for nodes in [31, 500] {
+        measure_as(in_place, &format!("{nodes} nodes"), &Work::new(nodes, Names::Front, 40, 4), rounds);
+    }
     println!("\nas the nodes grow (40 names):");
     for nodes in [31, 62, 125, 250, 500] {
         measure(&format!("{nodes} nodes"), &Work::new(nodes, Names::Front, 40, 4), rounds);
