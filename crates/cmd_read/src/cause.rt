@@ -69,7 +69,7 @@ const NAME_OFFSET: usize = 18;
 const DEPTH: usize = 19;
 
 // A cause: its row, and its number.
-#[derive(Drop)]
+#[derive(Clone, Copy)]
 struct Cause {
     row: usize,
     number: u64,

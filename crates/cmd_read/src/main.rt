@@ -1,5 +1,7 @@
 // Reads a blob from standard input and writes its tree, as dtc prints it, or with the argument `entries` the reader's entries.
 // If the blob is refused, one line on standard error says why, and where.
+#![tactic(auto)]
+
 mod cause;
 mod entries;
 mod room;

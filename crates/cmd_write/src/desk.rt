@@ -6,7 +6,7 @@ pub type Pairs = [u64; 130];
 
 // The writer; its buffers, each as long as its ceiling; the reservations so far, and how many numbers they are; whether
 // another call was made; and whether to stop because a line was wrong or refused: 0 if not.
-#[derive(Drop)]
+#[derive(Clone, Copy)]
 pub struct Desk {
     pub writer: FdtWriter,
     pub blob: [u8; 65_536],

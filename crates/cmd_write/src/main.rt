@@ -1,5 +1,7 @@
 // Writes the blob that a call list describes: docs/CALLS.md has the list's form. The list is read from standard input, and
 // the finished blob goes to standard output; if the list is wrong or refused, one line goes to standard error instead.
+#![tactic(auto)]
+
 mod calls;
 mod desk;
 mod list;

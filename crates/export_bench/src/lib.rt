@@ -1,4 +1,6 @@
 // A run of the writer as one exported function, so that Rust can time the proved code beside the original.
+#![tactic(auto)]
+
 use fdt_nodes::FdtWriterNode;
 use fdt_writer::FdtWriter;
 

@@ -1,4 +1,6 @@
 // How a boot program writes its blob: a root node with one property, the station's offset from UTC.
+#![tactic(auto)]
+
 use fdt_record::Answer;
 use fdt_writer::{Answered, FdtWriter};
 

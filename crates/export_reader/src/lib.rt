@@ -1,4 +1,6 @@
 // The reader as functions that C and Rust can call.
+#![tactic(auto)]
+
 ghost use Rattle.export_reader.specs.Told.{ReadTold, FaultTold};
 
 use fdt_reader::Surveyed;

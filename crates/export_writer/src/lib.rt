@@ -1,4 +1,6 @@
 // The writer for C and Rust: lent and changed in place, with answers as numbers. include/geirovund.h has the same functions.
+#![tactic(auto)]
+
 ghost use Rattle.std.specs.Prelude.{◌≡◌, List, ℕ};
 ghost use Rattle.fdt_calls.specs.Calls.{new, new_with_mem_reserv, set_boot_cpuid_phys, begin_node, end_node, property, property_null, property_string, property_string_list, property_u32, property_u64, property_array_u32, property_array_u64, property_phandle, finish};
 ghost use Rattle.fdt_calls.specs.Called.{desk_of};

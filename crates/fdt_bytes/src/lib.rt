@@ -1,4 +1,6 @@
 // Big-endian numbers, bytes and padding, written to and read from buffers that the caller lends. `rest` is the unused rest of a buffer; the writers write to its front.
+#![tactic(auto)]
+
 ghost use Rattle.std.specs.Prelude.{◌≡◌, ◌+◌, ◌≤◌, ◌<◌, ◌^◌, length};
 ghost use Rattle.fdt_bytes.specs.BigEndian.{big_endian, word_at, wide_at};
 ghost use Rattle.fdt_bytes.specs.Padding.{padding, round_up, zeros};
@@ -58,7 +60,7 @@ pub fn append_bytes(rest: &mut [u8], val: &[u8])
     requires { length val.now ≤ length rest.old }
     ensures { rest.new ≡ over val.now rest.old }
 {
-    bytes::copy(val, rest);
+    rest[..val.len()].copy_from_slice(val);
 }
 
 // Writes zeros to the front of the rest.

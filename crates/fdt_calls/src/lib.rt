@@ -1,1 +1,3 @@
 // The public calls as definitions. There is no code here.
+#![tactic(auto)]
+

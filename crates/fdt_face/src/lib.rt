@@ -1,4 +1,6 @@
 // The writer lent and changed in place, as the crate's own methods do: each call leaves in it what the call by value returns.
+#![tactic(auto)]
+
 ghost use Rattle.std.specs.Prelude.{◌≡◌, List, ℕ};
 ghost use Rattle.fdt_calls.specs.Calls.{begin_node, end_node, property, finish};
 ghost use Rattle.fdt_calls.specs.Called.{desk_of, Called, handle_of};
@@ -8,14 +10,14 @@ use fdt_record::Answer;
 use fdt_writer::FdtWriter;
 
 // The answer of beginning a node, and the node's handle.
-#[derive(Drop)]
+#[derive(Clone, Copy)]
 pub struct NodeGiven {
     pub answer: Answer,
     pub handle: FdtWriterNode,
 }
 
 // The same, and the new writer.
-#[derive(Drop)]
+#[derive(Clone, Copy)]
 struct NodeMade {
     given: NodeGiven,
     writer: FdtWriter,

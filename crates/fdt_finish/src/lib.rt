@@ -1,4 +1,6 @@
 // Setting the boot number, finishing a blob, and showing it.
+#![tactic(auto)]
+
 ghost use Rattle.std.specs.Prelude.{◌≡◌, ◌+◌, ◌*◌, ◌≤◌, ◌<◌, ◌^◌, length};
 ghost use Rattle.fdt_bytes.specs.BigEndian.{cell_bytes};
 ghost use Rattle.fdt_bytes.specs.Splice.{over, splice};

@@ -1,4 +1,6 @@
 // Types that readers of blobs share. specs/ defines what a blob describes and how it is read.
+#![tactic(auto)]
+
 ghost use Rattle.std.specs.Prelude.{◌≡◌};
 ghost use Rattle.fdt_format.specs.Refusals.{number_of};
 
@@ -18,7 +20,7 @@ pub const FDT_NOP: u32 = 4;
 pub const FDT_END: u32 = 9;
 
 // The areas that a blob's header names: where each begins, where structure and strings end. Also the boot number.
-#[derive(Drop)]
+#[derive(Clone, Copy)]
 pub struct Areas {
     pub reservations: usize,
     pub structure: usize,
@@ -29,7 +31,7 @@ pub struct Areas {
 }
 
 // How far a reading has come.
-#[derive(Drop)]
+#[derive(Clone, Copy)]
 pub struct State {
     // the place of the next token
     pub at: usize,
@@ -40,7 +42,7 @@ pub struct State {
 }
 
 // A token that was read: its word, its place, the place of its name, and the length of its value.
-#[derive(Drop)]
+#[derive(Clone, Copy)]
 pub struct Entry {
     pub token: u32,
     pub place: u32,
@@ -49,7 +51,7 @@ pub struct Entry {
 }
 
 // Why a blob cannot be read. The numbers are those of document 02, request 1/14; its reader adds 21, 25 and 30.
-#[derive(Drop)]
+#[derive(Clone, Copy)]
 pub enum Unreadable {
     // 22: no all-zero pair ends the reservations inside the blob.
     Reservations,
@@ -71,7 +73,7 @@ pub fn number(refusal: Unreadable) -> u32
 }
 
 // The token at a state: an entry with the state after it, a word 4, which is skipped, the final word, or a refusal.
-#[derive(Drop)]
+#[derive(Clone, Copy)]
 pub enum Step {
     Entry(Entry, State),
     Skip,

@@ -1,4 +1,6 @@
 // The header of a blob, and where the structure begins.
+#![tactic(auto)]
+
 ghost use Rattle.std.specs.Prelude.{◌≡◌, ◌+◌, ◌≤◌, ◌<◌, ◌^◌};
 ghost use Rattle.fdt_header.specs.Header.{structure_start, words_from};
 
@@ -9,7 +11,7 @@ pub const RESERVATION_SIZE: usize = 16;
 pub const STRUCTURE_START: usize = Header::SIZE + RESERVATION_SIZE;
 
 // The numbers of a header that differ from blob to blob.
-#[derive(Drop)]
+#[derive(Clone, Copy)]
 pub struct Header {
     pub off_dt_struct: u32,
     pub off_dt_strings: u32,

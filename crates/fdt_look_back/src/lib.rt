@@ -1,4 +1,6 @@
 // The look back for a name: whether one of the properties that the open node has so far has a name offset.
+#![tactic(auto)]
+
 ghost use Rattle.std.specs.Prelude.{◌≡◌, true, false, ◌≤◌, length};
 ghost use Rattle.fdt_format.specs.LookBack.{look_back};
 

@@ -1,4 +1,6 @@
 // Tests of names: of nodes, of properties, and for a byte 0. Loops over bytes have no early exit, so that many can be tested at once.
+#![tactic(auto)]
+
 ghost use Rattle.std.specs.Prelude.{◌≡◌, ◌&&◌, ◌||◌, leb};
 ghost use Rattle.fdt_names.specs.Grammar.{all, matches};
 ghost use Rattle.fdt_names.specs.Names.{letter, one_of, name_byte, node_name, property_name, has_zero};

@@ -1,4 +1,6 @@
 // Beginning and ending a node.
+#![tactic(auto)]
+
 ghost use Rattle.std.specs.Prelude.{◌≡◌, ◌≤◌, ◌<◌, length};
 ghost use Rattle.fdt_bytes.specs.Splice.{over};
 ghost use Rattle.fdt_format.specs.Tokens.{begin_bytes};
@@ -10,11 +12,11 @@ use fdt_format::{FDT_BEGIN_NODE, FDT_END_NODE};
 use fdt_record::{Answer, Outcome, Record};
 
 // A node that was begun: the depth just after it began; 0 is never valid.
-#[derive(Drop)]
+#[derive(Clone, Copy)]
 pub struct FdtWriterNode(pub usize);
 
 // What begin answers, with the node's handle and the new record.
-#[derive(Drop)]
+#[derive(Clone, Copy)]
 pub struct Begun {
     pub answer: Answer,
     pub handle: FdtWriterNode,

@@ -1,4 +1,6 @@
 // The calls of the writer with their answers as the numbers of documents 01 and 02: for callers that have no enums, such as C.
+#![tactic(auto)]
+
 ghost use Rattle.std.specs.Prelude.{◌≡◌, List, ℕ};
 ghost use Rattle.fdt_calls.specs.Calls.{new, new_with_mem_reserv, set_boot_cpuid_phys, begin_node, end_node, property, property_null, property_string, property_string_list, property_u32, property_u64, property_array_u32, property_array_u64, property_phandle, finish};
 ghost use Rattle.fdt_calls.specs.Called.{desk_of};
@@ -9,7 +11,7 @@ use fdt_nodes::FdtWriterNode;
 use fdt_writer::{Answered, FdtWriter};
 
 // The number of a call's answer, and the new writer.
-#[derive(Drop)]
+#[derive(Clone, Copy)]
 pub struct Numbered {
     pub number: u32,
     pub writer: FdtWriter,

@@ -1,4 +1,6 @@
 // Opening a writer over lent buffers.
+#![tactic(auto)]
+
 ghost use Rattle.std.specs.Prelude.{◌≡◌, ◌+◌, ◌*◌, ◌≤◌, length};
 ghost use Rattle.fdt_bytes.specs.Splice.{splice};
 ghost use Rattle.fdt_record.specs.Limits.{most_reservations};

@@ -1,4 +1,6 @@
 // Records a phandle in the table, and writes its property.
+#![tactic(auto)]
+
 ghost use Rattle.std.specs.Prelude.{◌≡◌, ◌≤◌, length, take};
 ghost use Rattle.fdt_names.specs.Names.{one_of};
 ghost use Rattle.fdt_phandles.specs.Phandle.{phandle_name, phandle_value, record_answer, PhandleOutcome};

@@ -1,1 +1,3 @@
 // Theorems over the calls of the writer. There is no code here.
+#![tactic(auto)]
+

@@ -1,4 +1,6 @@
 // A property, except its value: makes its tests, stores its name, and writes its words and padding.
+#![tactic(auto)]
+
 ghost use Rattle.std.specs.Prelude.{◌≡◌, ◌&&◌, [], ◌∷◌, ◌++◌, ◌+◌, ◌-◌, ◌≤◌, ◌<◌, ◌^◌, length};
 ghost use Rattle.fdt_bytes.specs.Padding.{round_up};
 ghost use Rattle.fdt_format.specs.LookBack.{look_back};
@@ -15,7 +17,7 @@ use fdt_record::{Answer, Outcome, Record};
 use fdt_strings::Interned;
 
 // What the tests ask of a value: whether the lengths of its strings do not sum to its bytes, whether a string has a byte 0, and how many bytes it takes.
-#[derive(Drop)]
+#[derive(Clone, Copy)]
 pub struct Measured {
     pub misfit: bool,
     pub zero: bool,
@@ -23,7 +25,7 @@ pub struct Measured {
 }
 
 // A name's place: whether it is in the used strings, whether there is no room for it, its offset, and how many bytes it adds to them.
-#[derive(Drop)]
+#[derive(Clone, Copy)]
 struct Place {
     known: bool,
     full: bool,
@@ -32,7 +34,7 @@ struct Place {
 }
 
 // The answer of all tests and, if they are passed, the name's place and the record after the call.
-#[derive(Drop)]
+#[derive(Clone, Copy)]
 struct Tested {
     answer: Answer,
     offset: usize,
@@ -41,7 +43,7 @@ struct Tested {
 }
 
 // The outcome of the call, whether it is accepted, and where its value then goes.
-#[derive(Drop)]
+#[derive(Clone, Copy)]
 pub struct Placed {
     pub outcome: Outcome,
     pub accepted: bool,

@@ -1,4 +1,6 @@
 // Writes a property of each kind of value: a placeholder, filled with bytes, numbers or strings.
+#![tactic(auto)]
+
 ghost use Rattle.fdt_values.specs.Value.{raw, cells, texts};
 ghost use Rattle.fdt_properties.specs.Property.{PropertyOutcome};
 

@@ -1,4 +1,6 @@
 // Reads the header of a lent blob and the areas that it names, and counts the reservations.
+#![tactic(auto)]
+
 ghost use Rattle.std.specs.Prelude.{◌≡◌, ◌&&◌, ◌+◌, ◌*◌, ◌≤◌, ◌<◌, ◌^◌, eqb, length};
 ghost use Rattle.fdt_bytes.specs.BigEndian.{word_at, wide_at};
 ghost use Rattle.fdt_format.specs.Reading.{areas_of, good_words, good_areas, reservations_at, read_reservations};
@@ -9,7 +11,7 @@ use fdt_format::{Areas, Unreadable};
 use fdt_header::{Header, RESERVATION_SIZE};
 
 // How many reservations come before the all-zero pair, or refusal 22 if no such pair is inside the blob.
-#[derive(Drop)]
+#[derive(Clone, Copy)]
 pub enum Reservations {
     Count(usize),
     Refused(Unreadable),

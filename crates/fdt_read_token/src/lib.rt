@@ -1,5 +1,7 @@
 // Reads one token of a lent blob: from a state of the reading to an entry and the next state, a word that is skipped, the final
 // word, or a refusal.
+#![tactic(auto)]
+
 ghost use Rattle.std.specs.Prelude.{◌≡◌, ◌+◌, ◌-◌, ◌≤◌, ◌<◌, ◌^◌, length};
 ghost use Rattle.fdt_format.specs.Step.{zero_from, size_at, begin_at, property_at, end_at, final_at, step_at};
 ghost use Rattle.fdt_read_token.specs.Inside.{Inside, InStructure};

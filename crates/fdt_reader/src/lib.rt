@@ -1,4 +1,6 @@
 // A reader of lent blobs: it reports begins, properties and ends in order, or the first fault.
+#![tactic(auto)]
+
 ghost use Rattle.std.specs.Prelude.{◌≡◌, ◌≤◌, ◌<◌};
 ghost use Rattle.fdt_read_token.specs.Trimmed.{Trimmed};
 ghost use Rattle.fdt_format.specs.Walk.{walk_start};
@@ -12,14 +14,14 @@ use fdt_read_header::Reservations;
 use fdt_walk::{Fault, Refusal, Token, token_at};
 
 // How far a pass has come: a state of the walk, and how many entries came before it.
-#[derive(Drop)]
+#[derive(Clone, Copy)]
 struct Cursor {
     state: State,
     count: usize,
 }
 
 // Where a pass stopped: after the end of the open node, at the final word with so many entries, or at a fault.
-#[derive(Drop)]
+#[derive(Clone, Copy)]
 enum Progress {
     Ended(Cursor),
     Complete(usize),
@@ -28,14 +30,14 @@ enum Progress {
 
 // What is known of a blob without its entries: its areas, with the strings cut after their last 0, and how many reservations
 // and entries it has; or its first fault.
-#[derive(Drop)]
+#[derive(Clone, Copy)]
 pub enum Surveyed {
     Readable(Areas, usize, usize),
     Refused(Fault),
 }
 
 // The answer of the reader.
-#[derive(Drop)]
+#[derive(Clone, Copy)]
 pub enum ReadAnswer {
     // 0: the boot number, and how many reservations and entries there are.
     Done(u32, usize, usize),
@@ -46,7 +48,7 @@ pub enum ReadAnswer {
 }
 
 // The values of an answer: the boot number, and how many reservations and entries there are.
-#[derive(Drop)]
+#[derive(Clone, Copy)]
 pub struct Values {
     pub boot: u32,
     pub reservations: usize,

@@ -1,4 +1,6 @@
 // The writer's record, its answers, its limits, and the tests of a record against what is lent.
+#![tactic(auto)]
+
 ghost use Rattle.std.specs.Prelude.{◌≡◌, cond, length};
 ghost use Rattle.fdt_record.specs.declared.Answer.TheVariants.{Done, Misfit};
 ghost use Rattle.fdt_record.specs.Answers.{number_of, accepts, upon};
@@ -25,7 +27,7 @@ pub const FDT_MAX_NODE_DEPTH: usize = 64;
 // What a writer knows of the calls so far and of its buffers: of each the usable length at opening (room) and how much is used.
 // `node_start` is the place in the blob where the open node's properties start.
 #[repr(C)]
-#[derive(Drop)]
+#[derive(Clone, Copy)]
 pub struct Record {
     pub blob_room: usize,
     pub blob_used: usize,
@@ -42,7 +44,7 @@ pub struct Record {
 }
 
 // What a call answers, with its number: acceptance, the crate's refusals (1 to 13), and the added ones.
-#[derive(Drop)]
+#[derive(Clone, Copy)]
 pub enum Answer {
     // 0: accepted.
     Done,
@@ -89,7 +91,7 @@ pub enum Answer {
 }
 
 // An answer, and the new record.
-#[derive(Drop)]
+#[derive(Clone, Copy)]
 pub struct Outcome {
     pub answer: Answer,
     pub after: Record,

@@ -1,17 +1,19 @@
 // Memory reservations: making one, and whether any two overlap.
+#![tactic(auto)]
+
 ghost use Rattle.std.specs.Prelude.{◌≡◌, true, ◌↔◌, ◌/◌, ◌<◌, length};
 ghost use Rattle.fdt_reserve.specs.Entry.{reserved};
 ghost use Rattle.fdt_reserve.specs.Overlap.{Overlap, entry_at, share};
 
 // A region of physical memory that the operating system must not use.
-#[derive(Drop)]
+#[derive(Clone, Copy)]
 pub struct FdtReserveEntry {
     pub address: u64,
     pub size: u64,
 }
 
 // The result of `FdtReserveEntry::new`.
-#[derive(Drop)]
+#[derive(Clone, Copy)]
 pub enum Reserved {
     Entry(FdtReserveEntry),
     InvalidMemoryReservation,

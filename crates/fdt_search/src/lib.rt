@@ -1,6 +1,8 @@
 // The search for a name in the strings area. It looks for three bytes at 32 gaps at a time, and compares the whole entry
 // only where all three are. A gap is the place from which the places of the three bytes are counted. For a name it is the
 // place before the name: if the name is an entry there, the gap has a 0. fdt_properties searches for its own three bytes.
+#![tactic(auto)]
+
 ghost use Rattle.std.specs.Prelude.{◌≡◌, true, ◌↔◌, ℕ, ◌+◌, ◌≤◌, ◌<◌, length};
 ghost use Rattle.fdt_search.specs.Clues.{ClueOf, CluesOf, HasClues, Nowhere, NextGap, Readable};
 ghost use Rattle.fdt_search.specs.FirstEntry.{PlainByte, EntryAt, FirstEntry};
@@ -9,14 +11,14 @@ ghost use Rattle.fdt_search.specs.FirstEntry.{PlainByte, EntryAt, FirstEntry};
 const END: u8 = 0;
 
 // A byte to look for, and its place counted from the gap. For a name, at 0 the 0 before it, then its bytes, then the 0 after it.
-#[derive(Drop)]
+#[derive(Clone, Copy)]
 pub struct Clue {
     pub at: usize,
     pub byte: u8,
 }
 
 // Three bytes to look for. For a name, the newest first.
-#[derive(Drop)]
+#[derive(Clone, Copy)]
 pub struct Clues {
     pub first: Clue,
     pub second: Clue,

@@ -1,4 +1,6 @@
 // Bytes written at a place of a buffer: the part from that place on is lent to the writers of fdt_bytes.
+#![tactic(auto)]
+
 ghost use Rattle.std.specs.Prelude.{◌≡◌, ◌+◌, ◌*◌, ◌≤◌, length};
 ghost use Rattle.fdt_bytes.specs.BigEndian.{big_endian, cell_bytes};
 ghost use Rattle.fdt_bytes.specs.Padding.{zeros};

@@ -1,18 +1,20 @@
 // The strings area: finding a name, finding room for a new one, and storing it.
+#![tactic(auto)]
+
 ghost use Rattle.std.specs.Prelude.{◌≡◌, ◌+◌, ◌≤◌, length};
 ghost use Rattle.fdt_bytes.specs.Splice.{splice};
 ghost use Rattle.fdt_strings.specs.Entries.{entry, find_string};
 ghost use Rattle.fdt_strings.specs.Interned.{interned};
 
 // The offset of a name in the strings, if it is there.
-#[derive(Drop)]
+#[derive(Clone, Copy)]
 pub enum Found {
     At(usize),
     Nothing,
 }
 
 // The result of `intern_string`: the offset of a name that is there, the offset for a new name, or refusal 15.
-#[derive(Drop)]
+#[derive(Clone, Copy)]
 pub enum Interned {
     Known(usize),
     New(usize),

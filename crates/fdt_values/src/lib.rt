@@ -1,4 +1,6 @@
 // The values of a property, and those given as strings: whether their lengths are right, and writing them.
+#![tactic(auto)]
+
 ghost use Rattle.std.specs.Prelude.{◌≡◌, ◌+◌, ◌≤◌, eqb, length};
 ghost use Rattle.fdt_bytes.specs.Splice.{splice};
 ghost use Rattle.fdt_values.specs.Value.{text_bytes, sum};

@@ -1,4 +1,6 @@
 // The tokens of a lent blob one after the other, as a reader takes them: at most 64 nodes may be open.
+#![tactic(auto)]
+
 ghost use Rattle.std.specs.Prelude.{◌≡◌};
 ghost use Rattle.fdt_read_token.specs.Trimmed.{Trimmed};
 ghost use Rattle.fdt_walk.specs.Refusals.{number_of};
@@ -11,7 +13,7 @@ use fdt_read_token::step_at;
 pub const MOST_OPEN: usize = 64;
 
 // Why a reader refuses a blob.
-#[derive(Drop)]
+#[derive(Clone, Copy)]
 pub enum Refusal {
     // 21: the header's words or areas are not good.
     Header,
@@ -23,14 +25,14 @@ pub enum Refusal {
 
 // The first fault of a blob: why it is refused, and where: 0 for the header, the offset of the reservations, or the place of the
 // token.
-#[derive(Drop)]
+#[derive(Clone, Copy)]
 pub struct Fault {
     pub refusal: Refusal,
     pub place: usize,
 }
 
 // The next token from a state on: an entry with the state after it, the final word, or a fault.
-#[derive(Drop)]
+#[derive(Clone, Copy)]
 pub enum Token {
     Entry(Entry, State),
     Final,

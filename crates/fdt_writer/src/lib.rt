@@ -1,4 +1,6 @@
 // The devicetree writer: each method takes the writer and returns an answer with the new writer.
+#![tactic(auto)]
+
 ghost use Rattle.std.specs.Prelude.{◌≡◌, List, ℕ};
 ghost use Rattle.fdt_record.specs.declared.Answer.TheVariants.{Done};
 ghost use Rattle.fdt_record.specs.declared.Record.{Record};
@@ -11,18 +13,18 @@ use fdt_record::{Answer, Outcome, Record};
 
 // A writer: the record of its buffers and of the calls so far. The buffers are lent to each call.
 #[repr(C)]
-#[derive(Drop)]
+#[derive(Clone, Copy)]
 pub struct FdtWriter(pub Record);
 
 // The answer of a call, and the new writer.
-#[derive(Drop)]
+#[derive(Clone, Copy)]
 pub struct Answered {
     pub answer: Answer,
     pub writer: FdtWriter,
 }
 
 // The answer of beginning a node, the node's handle, and the new writer.
-#[derive(Drop)]
+#[derive(Clone, Copy)]
 pub struct NodeAnswered {
     pub answer: Answer,
     pub handle: FdtWriterNode,

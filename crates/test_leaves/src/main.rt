@@ -1,4 +1,6 @@
 // Runs the leaves on the cases in the file `stdin`, and writes each case with its answer.
+#![tactic(auto)]
+
 mod buffers;
 mod cases;
 mod strings;

@@ -3,7 +3,7 @@ use crate::reads;
 use text_lines::{numbers, said, spelling};
 
 // How many bytes the next reads are lent, and how long the list of the last read was.
-#[derive(Drop)]
+#[derive(Clone, Copy)]
 struct Lent {
     bytes: usize,
     numbers: usize,

@@ -1,4 +1,6 @@
 // Reads blobs in bulk, and writes what the reader answers and leaves: docs/REPLAY.md has the list's format.
+#![tactic(auto)]
+
 mod list;
 mod reads;
 mod room;

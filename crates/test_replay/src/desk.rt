@@ -6,7 +6,7 @@ use fdt_writer::{Answered, FdtWriter};
 
 // A writer; its last answer's number, and the handle that it gave or 0; the arrays, and how much of the front of each the
 // next call is lent; whether lines are written again.
-#[derive(Drop)]
+#[derive(Clone, Copy)]
 pub struct Desk {
     pub writer: FdtWriter,
     pub number: u32,

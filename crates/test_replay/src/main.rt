@@ -1,4 +1,6 @@
 // Runs a list of the writer's calls, and writes what each answered and left: docs/REPLAY.md has the list's format.
+#![tactic(auto)]
+
 mod calls;
 mod changes;
 mod desk;

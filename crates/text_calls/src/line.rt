@@ -5,7 +5,7 @@ use crate::{numbers, texts, verbs};
 
 // The call; where its name begins and ends (a phandle's is the word `phandle`), and where its values begin; its last two numbers;
 // whether the line is right: a call in its form, or no call.
-#[derive(Drop)]
+#[derive(Clone, Copy)]
 pub struct Line {
     pub verb: usize,
     pub name: usize,

@@ -6,7 +6,7 @@ pub const DEEPEST: usize = 64;
 
 // The open nodes, outermost first: where the line of each begin is, and how many there are. The number of the last line that gives
 // the property that is looked for; 0 if none does.
-#[derive(Drop)]
+#[derive(Clone, Copy)]
 pub struct Nodes {
     pub begins: [usize; DEEPEST],
     pub depth: usize,

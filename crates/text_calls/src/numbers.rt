@@ -7,7 +7,7 @@ const GAP: u8 = 6;
 const COMMENT: u8 = 7;
 
 // The state; the last number and the one before it; how many have begun.
-#[derive(Drop)]
+#[derive(Clone, Copy)]
 pub struct Numbers {
     pub state: u8,
     pub value: u64,

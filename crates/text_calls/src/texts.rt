@@ -24,7 +24,7 @@ const HIGH: u8 = 6;
 const LOW: u8 = 16;
 
 // The state; how many strings have begun, how many bytes they have, how many of them the last has, and the last byte.
-#[derive(Drop)]
+#[derive(Clone, Copy)]
 pub struct Texts {
     pub state: u8,
     pub count: usize,

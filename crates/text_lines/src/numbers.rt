@@ -5,7 +5,7 @@ ghost use Rattle.io.specs.Counts.{IsPrefixLen};
 use text_words::number;
 
 // How far a line is read: the word's place in it, the word's value so far, and its state as a number.
-#[derive(Drop)]
+#[derive(Clone, Copy)]
 struct Word {
     place: usize,
     value: u64,

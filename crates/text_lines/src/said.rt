@@ -5,7 +5,7 @@ use text_words::out::Out;
 
 // How bytes are written: as a word spells them or in two digits each, with one space before all of them; or in two digits
 // each, with a space before every fourth or before each.
-#[derive(Drop)]
+#[derive(Clone, Copy)]
 pub enum Style {
     Letters,
     Digits,

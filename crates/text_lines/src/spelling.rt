@@ -13,7 +13,7 @@ const HIGH: u8 = 2;
 const LOW: u8 = 16;
 
 // How many bytes were spelled, the last of them, and the state: 0 where a byte begins, or one of the above.
-#[derive(Drop)]
+#[derive(Clone, Copy)]
 struct Spelled {
     count: usize,
     byte: u8,

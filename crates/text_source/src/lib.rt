@@ -1,9 +1,11 @@
 // The source of a devicetree, as dtc prints it: names, and values as strings, cells or bytes.
+#![tactic(auto)]
+
 use text_words::out;
 use text_words::out::Out;
 
 // How a value is printed.
-#[derive(Drop)]
+#[derive(Clone, Copy)]
 enum Shape {
     Text,
     Cells,

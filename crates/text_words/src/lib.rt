@@ -1,5 +1,7 @@
 // Pieces of a text, with one byte between two: the words of a line, the lines of a list. Numbers, digit by digit. Text that is
 // written in blocks, and input that is read whole.
+#![tactic(auto)]
+
 pub mod input;
 pub mod number;
 pub mod out;

@@ -17,7 +17,7 @@ pub const HEXADECIMAL: u8 = 4;
 pub const WRONG: u8 = 5;
 
 // The value of what was read so far, and its state, one of the above.
-#[derive(Drop)]
+#[derive(Clone, Copy)]
 pub struct Number {
     pub value: u64,
     pub state: u8,

@@ -1,7 +1,7 @@
 // Text that is written in blocks, to standard output or another descriptor.
 
 // A descriptor, what is still to be written to it, how much that is, and whether everything before it was written.
-#[derive(Drop)]
+#[derive(Clone, Copy)]
 pub struct Out {
     fd: i32,
     text: [u8; 512],
