@@ -1,16 +1,16 @@
 -- Laws of `specs/Names.antt`: a loop decides `one_of`, and a node name is tested by the parts before and after its first @.
-use Prim.Native.Nat.{ℕ, zero, suc, ◌+◌, ◌-◌, ◌<◌}
+use Prim.Native.Nat.{ℕ, zero, suc, ◌+◌, ◌-◌, ◌<◌, ◌≤◌}
 use native.Mathlib.Numerals.{add-one, one-add}
 use native.Mathlib.Omega.{arith}
 use mathlib.Core.Path.{◌≡◌, refl, sym, ◌∙◌}
 use mathlib.Core.Bool.{Bool, true, false, not, ◌&&◌, ◌||◌, or-false, or_assoc, and_assoc}
 use mathlib.Core.List.{List, [], ◌∷◌, ◌++◌}
 use lib.Dec.{eqb, leb, leb-zero, leb-suc-zero, leb-suc-suc}
-use lib.ListN.{length, get_or, take, drop}
-use lib.Seq.{take-length, take-suc}
+use lib.ListN.{length, get_or, take, drop, drop_of_length-le}
+use lib.Seq.{take-suc, drop-cons}
 use borrow.Author.Tests.{eqb-true}
-use Rattle.bytes.specs.Bytes.{index_after, index_of, slice}
 use Rattle.fdt_names.specs.Grammar.{Grammar, empty, from_to, any, ◌then◌, ◌or◌, all, in_two, matches}
+use Rattle.fdt_names.specs.Index.{index_after, index_of}
 use Rattle.fdt_names.specs.Names.{is, one_of, letter, digit, name_byte, node_byte, node_name, unit_address, has_zero}
 use Rattle.fdt_names.proofs.Grammar.{and_swap, none_then, more_then, one_then}
 
@@ -75,16 +75,31 @@ unfolding index_of parts rest matches in_two all
 rest_parts [] m = simp leb-zero
 rest_parts (b ∷ s) m = at_first b s (rest_parts s) (eqb b 64) refl m
 
--- a node name, cut where `find` finds its first @ or its end
+-- one step of a search for b: the byte at k is another one
+pub index_of-next : (s : List ℕ) (b k : ℕ) → k < length s → eqb (get_or s k 0) b ≡ false → k + index_of b (drop k s) ≡ k + 1 + index_of b (drop (k + 1) s)
+unfolding index_of index_after
+index_of-next s b k h e = rw (add-one, drop-cons s k 0 h, e) (omega arith)
+
+-- the search ends at k: b is there
+pub index_of-here : (s : List ℕ) (b k : ℕ) → k < length s → eqb (get_or s k 0) b ≡ true → k + index_of b (drop k s) ≡ k
+unfolding index_of index_after
+index_of-here s b k h e = rw (drop-cons s k 0 h, e) (omega arith)
+
+-- the search ends at the end
+pub index_of-end : (s : List ℕ) (b k : ℕ) → length s ≤ k → k + index_of b (drop k s) ≡ k
+unfolding index_of
+index_of-end s b k h = rw (drop_of_length-le s h) (omega arith)
+
+-- a node name, cut at its first @ after the first byte or at its end
 pub name_parts :
     (s : List ℕ) {at : ℕ} →
     0 < length s →
-    at ≡ 1 + index_of 64 (slice 1 (length s) s) →
+    at ≡ 1 + index_of 64 (drop 1 s) →
     matches node_name s ≡ (letter (get_or s 0 0) && (leb at 31 && (all node_byte (take (at - 1) (drop 1 s)) && all node_byte (drop (at + 1) s))))
-unfolding node_name rest parts slice
+unfolding node_name rest parts
 name_parts [] h e = absurd (omega arith)
 name_parts (b ∷ s) {at} h e =
     let k = index_of 64 s in
-    let found : at ≡ suc k = e ∙ rw (take-length s, one-add) in
+    let found : at ≡ suc k = e ∙ rw one-add in
     let before : suc k - 1 ≡ k = omega arith in
     one_then letter (rest 30) b s ∙ simp (rest_parts, found, before, add-one, leb-suc-suc k 30)

@@ -1,8 +1,9 @@
 // Tests of names: of nodes, of properties, and for a byte 0. Loops over bytes have no early exit, so that many can be tested at once.
 #![tactic(auto)]
 
-ghost use Rattle.std.specs.Prelude.{◌≡◌, ◌&&◌, ◌||◌, leb};
+ghost use Rattle.std.specs.Prelude.{◌≡◌, ◌&&◌, ◌||◌, leb, ◌+◌, ◌<◌, ◌≤◌, length, drop};
 ghost use Rattle.fdt_names.specs.Grammar.{all, matches};
+ghost use Rattle.fdt_names.specs.Index.{index_of};
 ghost use Rattle.fdt_names.specs.Names.{letter, one_of, name_byte, node_name, property_name, has_zero};
 
 // The greatest length of a node name, without its unit address.
@@ -64,6 +65,22 @@ fn all_valid_chars(s: &[u8], marks: &[u8]) -> bool
     good
 }
 
+// The place of the first @ after the first byte, or the end.
+fn base_end(name: &[u8]) -> usize
+    requires { 0 < length name.now }
+    ensures value { result ≡ 1 + index_of 64 (drop 1 name.now) }
+    ensures within { result ≤ length name.now }
+{
+    let mut at = 1;
+    while at < name.len() {
+        if name[at] == b'@' {
+            return at;
+        }
+        at += 1;
+    }
+    at
+}
+
 // Whether the bytes are a node name.
 pub fn node_name_valid(name: &[u8]) -> bool
     ensures { result ≡ matches node_name name.now }
@@ -72,8 +89,7 @@ pub fn node_name_valid(name: &[u8]) -> bool
     if n == 0 {
         return true;
     }
-    // the place of the first @, or the end
-    let at = bytes::scan::find(name, 1, n, b'@');
+    let at = base_end(name);
     if NODE_NAME_MAX_LEN < at || !node_name_valid_first_char(name[0]) {
         return false;
     }
