@@ -3,15 +3,14 @@ use Prim.Native.Nat.{ℕ, zero, suc, ◌+◌, ◌-◌, ◌<◌}
 use native.Mathlib.Numerals.{add-one, one-add}
 use native.Mathlib.Omega.{arith}
 use mathlib.Core.Path.{◌≡◌, refl, sym, ◌∙◌}
-use mathlib.Core.Bool.{Bool, true, false, not, ◌&&◌, ◌||◌, or-false, or_assoc, and_assoc}
+use mathlib.Core.Bool.{Bool, true, false, cond, not, ◌&&◌, ◌||◌, or-false, or_assoc, and_assoc}
 use mathlib.Core.List.{List, [], ◌∷◌, ◌++◌}
 use lib.Dec.{eqb, leb, leb-zero, leb-suc-zero, leb-suc-suc}
 use lib.ListN.{length, get_or, take, drop}
-use lib.Seq.{take-length, take-suc}
+use lib.Seq.{take-suc}
 use borrow.Author.Tests.{eqb-true}
-use Rattle.bytes.specs.Bytes.{index_after, index_of, slice}
 use Rattle.fdt_names.specs.Grammar.{Grammar, empty, from_to, any, ◌then◌, ◌or◌, all, in_two, matches}
-use Rattle.fdt_names.specs.Names.{is, one_of, letter, digit, name_byte, node_byte, node_name, unit_address, has_zero}
+use Rattle.fdt_names.specs.Names.{is, one_of, letter, digit, name_byte, node_byte, node_name, unit_address, has_zero, index_of}
 use Rattle.fdt_names.proofs.Grammar.{and_swap, none_then, more_then, one_then}
 
 -- one more byte at the end is one more that b may be
@@ -63,8 +62,8 @@ rest_at zero s = rest_full 64 s
 rest_at (suc m) s = rest_room m 64 s ∙ simp (or-false, leb-zero)
 
 module _ (b : ℕ) (s : List ℕ) (by_parts : (m : ℕ) → matches (rest m) s ≡ parts m (index_of 64 s) s) where
-  at_first : (t : Bool) → eqb b 64 ≡ t → (m : ℕ) → matches (rest m) (b ∷ s) ≡ parts m (index_after t (index_of 64 s)) (b ∷ s)
-  unfolding index_after parts all is
+  at_first : (t : Bool) → eqb b 64 ≡ t → (m : ℕ) → matches (rest m) (b ∷ s) ≡ parts m (cond t 0 (suc (index_of 64 s))) (b ∷ s)
+  unfolding parts all is
   at_first true e m = rw (eqb-true b 64 e) (rest_at m s)
   at_first false e zero = rest_full b s ∙ simp (e, leb-suc-zero)
   at_first false e (suc m) =
@@ -79,12 +78,12 @@ rest_parts (b ∷ s) m = at_first b s (rest_parts s) (eqb b 64) refl m
 pub name_parts :
     (s : List ℕ) {at : ℕ} →
     0 < length s →
-    at ≡ 1 + index_of 64 (slice 1 (length s) s) →
+    at ≡ 1 + index_of 64 (drop 1 s) →
     matches node_name s ≡ (letter (get_or s 0 0) && (leb at 31 && (all node_byte (take (at - 1) (drop 1 s)) && all node_byte (drop (at + 1) s))))
-unfolding node_name rest parts slice
+unfolding node_name rest parts
 name_parts [] h e = absurd (omega arith)
 name_parts (b ∷ s) {at} h e =
     let k = index_of 64 s in
-    let found : at ≡ suc k = e ∙ rw (take-length s, one-add) in
+    let found : at ≡ suc k = e ∙ rw one-add in
     let before : suc k - 1 ≡ k = omega arith in
     one_then letter (rest 30) b s ∙ simp (rest_parts, found, before, add-one, leb-suc-suc k 30)

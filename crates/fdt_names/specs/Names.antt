@@ -1,5 +1,5 @@
 -- The names of nodes and properties (document 01, "Names").
-use Rattle.std.specs.Prelude.{ℕ, Bool, false, not, ◌&&◌, ◌||◌, List, [], ◌∷◌, eqb, leb}
+use Rattle.std.specs.Prelude.{ℕ, suc, Bool, false, not, ◌&&◌, ◌||◌, cond, List, [], ◌∷◌, eqb, leb}
 use Rattle.fdt_names.specs.Grammar.{Grammar, empty, from_to, any, ◌then◌, ◌or◌, all}
 
 -- the byte is the given one
@@ -46,3 +46,8 @@ property_name = from_to 1 31 property_byte
 -- one of the bytes is 0
 unfoldable pub has_zero : List ℕ → Bool
 has_zero s = not (all (λ b. not (eqb b 0)) s)
+
+-- the place of the first byte that is b; without one, the length
+unfoldable pub index_of : ℕ → List ℕ → ℕ
+index_of b [] = 0
+index_of b (x ∷ s) = cond (eqb x b) 0 (suc (index_of b s))
