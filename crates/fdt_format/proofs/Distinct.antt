@@ -26,8 +26,11 @@ one_of ((n ≔ w) ∷ ps) d (Memᴰ.head q) (Memᴰ.tail k) = absurd (d.0 (rw (�
 one_of ((n ≔ w) ∷ ps) d (Memᴰ.tail m) (Memᴰ.head r) = absurd (d.0 (rw (← ap name_of r) (mem_name m)))
 one_of ((n ≔ w) ∷ ps) d (Memᴰ.tail m) (Memᴰ.tail k) = one_of ps d.1 m k
 
-pub one_value : {f : Nodes} {ps : List Property} {name v u : List ℕ} → DistinctNames f → PropertiesOf ps f → Memᴰ (name ≔ v) ps → Memᴰ (name ≔ u) ps → v ≡ u
+value_in : (ps : List Property) {f : Nodes} {name v u : List ℕ} → DistinctNames f → PropertiesOf ps f → Memᴰ (name ≔ v) ps → Memᴰ (name ≔ u) ps → v ≡ u
 unfolding DistinctNames
-one_value {ps = ps} d here m k = one_of ps d.0 m k
-one_value d (below p) m k = one_value d.1 p m k
-one_value d (after p) m k = one_value d.2 p m k
+value_in ps d here m k = one_of ps d.0 m k
+value_in ps d (below p) m k = value_in ps d.1 p m k
+value_in ps d (after p) m k = value_in ps d.2 p m k
+
+pub one_value : {f : Nodes} {ps : List Property} {name v u : List ℕ} → DistinctNames f → PropertiesOf ps f → Memᴰ (name ≔ v) ps → Memᴰ (name ≔ u) ps → v ≡ u
+one_value {ps = ps} d p m k = value_in ps d p m k

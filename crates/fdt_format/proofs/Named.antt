@@ -21,7 +21,7 @@ zero_found {b} {at} e no_byte h l = zero_here b e at (omega arith) (bytes-first 
 zero_found {b} {at} e (next_byte {b = x} {s = xs} p n) h l =
     let f : get_or b at 0 ≡ x = bytes-first h in
     zero_on b e at (omega arith) (λ z. omega arith)
-    ∙ zero_found e n (bytes-right (x ∷ []) (xs ++ (0 ∷ [])) h (at + 1) refl) (omega arith)
+    ∙ zero_found {at = at + 1} e n (bytes-right (x ∷ []) (xs ++ (0 ∷ [])) h (at + 1) refl) (omega arith)
     ∙ omega arith
 
 until_zero_lem : {name : List ℕ} (rest : List ℕ) → NoZero name → until_zero ((name ++ (0 ∷ [])) ++ rest) ≡ name

@@ -118,7 +118,7 @@ pub names-plain : {names : List (List ℕ)} (es : List Event) → AllPlain es �
 unfolding AllPlain Plain names_from
 names-plain [] a p = p
 names-plain (begins name ∷ es) a p = names-plain es a.1 p
-names-plain (has (name ≔ value) ∷ es) a p = names-plain es a.1 (with_plain name p a.0)
+names-plain {names = names} (has (name ≔ value) ∷ es) a p = names-plain {names = with_name names name} es a.1 (with_plain name p a.0)
 names-plain (ends ∷ es) a p = names-plain es a.1 p
 
 module _ {names : List (List ℕ)} (p : PlainNames names) where

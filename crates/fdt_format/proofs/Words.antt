@@ -53,4 +53,4 @@ cell_at {b} {at} width (v ∷ vs) zero to h i l e =
     ap (number_at width b) f ∙ number_at_lem width v (bytes_left (big_endian width v) (cell_bytes width vs) h) l
 cell_at {b} {at} width (v ∷ vs) (suc k) to h i l e =
     let rest = bytes-right (big_endian width v) (cell_bytes width vs) h (at + width) (ap (λ (n : ℕ). at + n) (length-big_endian width v)) in
-    cell_at width vs k to rest (omega arith) l (omega (arith, mul-suc width k))
+    cell_at {at = at + width} width vs k to rest (omega arith) l (omega (arith, mul-suc width k))

@@ -4,7 +4,6 @@ use Rattle.std.specs.Prelude.{Bool, true, false, ◌&&◌, cond, List, ℕ, zero
 use Rattle.fdt_bytes.specs.BigEndian.{word_at}
 use Rattle.fdt_bytes.specs.Padding.{round_up}
 use Rattle.fdt_format.specs.declared.Areas.{Areas}
-use Rattle.fdt_format.specs.declared.Entry.{Entry}
 use Rattle.fdt_format.specs.declared.State.{State}
 use Rattle.fdt_format.specs.declared.Step.{Step}
 use Rattle.fdt_format.specs.declared.Step.TheVariants as step

@@ -1,5 +1,5 @@
 -- The header and the reservations (document 01, "The bytes"; Devicetree Specification v0.4, sections 5.2 and 5.3).
-use Rattle.std.specs.Prelude.{ℕ, ◌+◌, ◌*◌, ◌-◌, List, [], ◌∷◌, ◌++◌, length}
+use Rattle.std.specs.Prelude.{ℕ, ◌+◌, ◌*◌, ◌-◌, List, [], ◌∷◌, ◌++◌}
 use Rattle.fdt_bytes.specs.BigEndian.{cell_bytes}
 use Rattle.fdt_bytes.specs.Padding.{zeros}
 

@@ -1,2 +1,1 @@
 pub mod Trimmed
-pub mod Zeros

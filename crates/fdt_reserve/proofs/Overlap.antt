@@ -1,5 +1,5 @@
 -- Laws of overlap: two reservations that share an address share the greater of their starts, so testing each pair finds every overlap.
-use mathlib.Core.Path.{◌≡◌, refl, sym, ap, subst, ◌∙◌}
+use mathlib.Core.Path.{◌≡◌, refl, sym, ap, ◌∙◌}
 use mathlib.Core.Bool.{Bool, true, false, ◌&&◌, ◌||◌, and_comm, and-false, and-true, or-true, and-eq-true_iff, true≢false}
 use mathlib.Core.Logic.{◌↔◌}
 use mathlib.Core.List.{List}
@@ -12,7 +12,7 @@ use borrow.Author.Count.{below_more}
 use borrow.Author.Tests.{lt-ltb, le-ltb, ltb-true}
 use lib.Arith.{lt_of_le-ne}
 use lib.Dec.{ltb}
-use lib.ListN.{length, get_or, get_or-eq_default}
+use lib.ListN.{length, get_or-eq_default}
 use Rattle.fdt_bytes.proofs.Tests.{same_test}
 use Rattle.fdt_reserve.specs.declared.FdtReserveEntry.{FdtReserveEntry}
 use Rattle.fdt_reserve.specs.Overlap.{start, size, entry_at, LiesIn, Overlap, some_below, share, overlapping}
