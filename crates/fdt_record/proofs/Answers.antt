@@ -1,11 +1,6 @@
 -- Acceptance and refusal: what `upon` picks, and that a refusal is no acceptance.
 use mathlib.Core.Path.{◌≡◌, refl, sym, ap, ◌∙◌}
 use mathlib.Core.Bool.{Bool, true, false, cond, true≢false}
-use mathlib.Core.List.{List, [], ◌∷◌}
-use Prim.Native.Nat.{ℕ}
-use types.Run.{OneOf, miss}
-use denote.Enum.Declared.{tag_of}
-use Rattle.fdt_record.specs.contracts.Answer.{the_type}
 use Rattle.fdt_record.specs.declared.Answer.{Answer}
 use Rattle.fdt_record.specs.declared.Answer.TheVariants.{Done, PropertyBeforeBeginNode, PropertyAfterEndNode, PropertyValueTooLarge, TotalSizeTooLarge, InvalidString, OutOfOrderEndNode, UnclosedNode, InvalidMemoryReservation, OverlappingMemoryReservations, InvalidNodeName, InvalidPropertyName, NodeDepthTooLarge, DuplicatePhandle, BlobRoom, StringRoom, PhandleRoom, Misfit, Finished, TooManyReservations, DuplicateProperty}
 use Rattle.fdt_record.specs.declared.Outcome.{Outcome}
@@ -74,13 +69,9 @@ accepts-done Finished e = absurd (true≢false (sym e))
 accepts-done TooManyReservations e = absurd (true≢false (sym e))
 accepts-done DuplicateProperty e = absurd (true≢false (sym e))
 
--- the tags of the refusals, as one arm for all of them has them
-abbrev refusal_tags : List ℕ
-refusal_tags = 1 ∷ 2 ∷ 3 ∷ 4 ∷ 5 ∷ 6 ∷ 7 ∷ 8 ∷ 9 ∷ 10 ∷ 11 ∷ 12 ∷ 13 ∷ 14 ∷ 15 ∷ 16 ∷ 17 ∷ 18 ∷ 19 ∷ 20 ∷ []
-
-pub not_done : (answer : Answer) → OneOf refusal_tags (tag_of the_type answer) → accepts answer ≡ false
+pub not_done : (answer : Answer) → (answer ≡ Done → ⊥) → accepts answer ≡ false
 unfolding accepts
-not_done Done h = absurd (miss refusal_tags 0 tt h)
+not_done Done h = absurd (h refl)
 not_done PropertyBeforeBeginNode h = refl
 not_done PropertyAfterEndNode h = refl
 not_done PropertyValueTooLarge h = refl

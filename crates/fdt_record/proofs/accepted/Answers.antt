@@ -6,7 +6,7 @@ use Rattle.fdt_record.proofs.accepted.Goals as goal
 
 pub returns-in-Done : goal.returns-in-Done
 unfolding accepts
-returns-in-Done c = ap accepts (sym c.enum_told-1.given.1)
+returns-in-Done c = ap accepts (sym c.in-Done.is)
 
 pub returns-in_default : goal.returns-in_default
-returns-in_default c = sym (not_done _ c.in_default.keys2)
+returns-in_default c = sym (not_done _ c.in_default.not-Done)

@@ -1,8 +1,8 @@
 -- `check_overlapping` meets its contract. The outer invariant: each reservation before `i` shares no address with any after it; the inner: `i` shares none with those before `j`.
-use mathlib.Core.Path.{◌≡◌, refl, sym, ◌∙◌}
+use mathlib.Core.Path.{refl, sym, ◌∙◌}
 use mathlib.Core.Bool.{true≢false}
 use borrow.Author.Count.{below_more}
-use Rattle.fdt_reserve.proofs.Overlap.{meets, meets_entries, clear_none, clear_more, clash, apart}
+use Rattle.fdt_reserve.proofs.Overlap.{meets_entries, clear_none, clear_more, clash, apart}
 use native.Mathlib.Omega.{arith}
 use Rattle.fdt_reserve.proofs.check_overlapping.Goals as goal
 

@@ -1,8 +1,6 @@
 -- `intern_string` meets its contract: each return is one of the three results.
-use mathlib.Core.Path.{◌≡◌, sym, ◌∙◌}
+use mathlib.Core.Path.{sym}
 use native.Mathlib.Omega.{arith}
-use Rattle.fdt_strings.specs.Entries.{find_string}
-use Rattle.fdt_strings.specs.declared.Found.TheVariants.{Nothing}
 use Rattle.fdt_strings.proofs.Places.{interned_known, interned-new, interned_full}
 use Rattle.fdt_strings.proofs.intern_string.Goals as goal
 

@@ -1,0 +1,35 @@
+-- `some_invalid` meets its contract: no reservation that was passed is refused, and one that is ends the search.
+use mathlib.Core.Path.{◌≡◌, refl, sym}
+use Prim.Native.Nat.{◌/◌}
+use lib.ListN.{length}
+use Rattle.fdt_reserve.specs.Overlap.{some_below}
+use Rattle.fdt_reserve.proofs.Entry.{refused-invalid, taken_valid}
+use Rattle.fdt_reserve.proofs.Overlap.{some_at, some_more}
+use Rattle.fdt_opening.specs.Opening.{some_invalid}
+use borrow.Author.Rules.{rules}
+use native.Mathlib.Omega.{arith}
+use Rattle.fdt_opening.proofs.some_invalid.Goals as goal
+
+pub loop-i-init : goal.loop-i-init
+unfolding some_below
+loop-i-init c = (search rules, refl)
+
+pub returns-in-InvalidMemoryReservation : goal.returns-in-InvalidMemoryReservation
+unfolding some_invalid
+returns-in-InvalidMemoryReservation c =
+    sym
+    (some_at _ _ c.loop-i.i c.loop-i-test.true
+    (refused-invalid _ _ _ _ c.entry_at-e.ensures c.new.ensures c.enum_told-1.given.1))
+
+pub loop-i-preserved : goal.loop-i-preserved
+loop-i-preserved c =
+    let l = c.loop-i in (
+      search rules,
+      some_more _ l.i l.invariant.1 (taken_valid _ _ _ _ c.entry_at-e.ensures c.new.ensures _ c.enum_told-in_default-1.given.1),
+    )
+
+pub returns : goal.returns
+unfolding some_invalid
+returns c =
+    let e : c.loop-i.i ≡ length c.args.mem_reservations.now / 2 = omega arith in
+    sym (rw e at c.loop-i.invariant.1)
