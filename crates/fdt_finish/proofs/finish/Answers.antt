@@ -1,4 +1,4 @@
--- `finish` meets its contract: where its tests are passed what it writes fits, and otherwise nothing changes.
+-- `finish` meets its contract: where its tests are (sym what.before.accepted.ensures ∙ not-false _ what.if1.false) it writes fits, and otherwise nothing changes.
 use mathlib.Core.Path.{sym, ap, ◌∙◌}
 use native.Mathlib.Omega.{arith}
 use Rattle.fdt_record.specs.declared.Record.{Record}
@@ -6,10 +6,6 @@ use Rattle.fdt_record.proofs.Answers.{accepts-done, left-accepted, left-refused,
 use Rattle.fdt_finish.specs.Finish.{finish, finish_blob}
 use Rattle.fdt_finish.proofs.Finishing.{finish-fits}
 use Rattle.fdt_finish.proofs.finish.Goals as goal
-use Rattle.fdt_finish.proofs.finish.Goals.{After-finish_tests-answer, Start}
-
-abbrev start : After-finish_tests-answer → Start
-start c = c.before.before.before
 
 pub returns-then-not-accepted : goal.returns-then-not-accepted
 unfolding finish finish_blob
@@ -20,11 +16,16 @@ returns-then-not-accepted c =
 
 pub put_finish-requires : goal.put_finish-requires
 put_finish-requires c =
-    let f = (finish-fits _ _ _ (sym c.finish_tests-answer.ensures ∙ accepts-done _ (passed c))) in
-    (f.started, (omega (arith, f.room, f.small), (omega (arith, f.room, f.within), f.stored)))
+    let f = (finish-fits _ _ _ (sym c.finish_tests-answer.ensures ∙ accepts-done _ ((sym c.accepted.ensures ∙ c.if-not-accepted.false)))) in
+    record {
+      reservations_bound = f.started;
+      strings_used_bound = omega (arith, f.room, f.small);
+      strings_used_in_bounds = omega (arith, f.room, f.within);
+      strings_used_in_bounds_2 = f.stored;
+    }
 
 pub after_finish-requires : goal.after_finish-requires
-after_finish-requires c = let f = (finish-fits _ _ _ (sym c.finish_tests-answer.ensures ∙ accepts-done _ (passed c))) in omega (arith, f.room, f.small)
+after_finish-requires c = let f = (finish-fits _ _ _ (sym c.finish_tests-answer.ensures ∙ accepts-done _ ((sym c.accepted.ensures ∙ c.if-not-accepted.false)))) in omega (arith, f.room, f.small)
 
 pub returns : goal.returns
 unfolding finish finish_blob

@@ -3,10 +3,6 @@ use mathlib.Core.Path.{sym, ◌∙◌}
 use Rattle.fdt_record.proofs.Answers.{accepts-done}
 use Rattle.fdt_opening.proofs.Opening.{opened-fits, refused-outcome, accepted-outcome}
 use Rattle.fdt_opening.proofs.open.Goals as goal
-use Rattle.fdt_opening.proofs.open.Goals.{After-opening_tests-answer, Start}
-
-abbrev start : After-opening_tests-answer → Start
-start c = c.before.before.before.before.before
 
 pub returns-then-not-accepted : goal.returns-then-not-accepted
 returns-then-not-accepted c =
@@ -15,10 +11,10 @@ returns-then-not-accepted c =
     c.closed.ensures
 
 pub write_mem_rsvmap-requires : goal.write_mem_rsvmap-requires
-write_mem_rsvmap-requires c = ((opened-fits _ _ _ _ (sym c.opening_tests-answer.ensures ∙ accepts-done _ (passed c)))).room
+write_mem_rsvmap-requires c = ((opened-fits _ _ _ _ (sym c.opening_tests-answer.ensures ∙ accepts-done _ ((sym c.accepted.ensures ∙ c.if-not-accepted.false))))).room
 
 pub opened-requires : goal.opened-requires
-opened-requires c = ((opened-fits _ _ _ _ (sym c.opening_tests-answer.ensures ∙ accepts-done _ (passed c)))).few
+opened-requires c = ((opened-fits _ _ _ _ (sym c.opening_tests-answer.ensures ∙ accepts-done _ ((sym c.accepted.ensures ∙ c.if-not-accepted.false))))).few
 
 pub returns : goal.returns
 returns c =

@@ -19,13 +19,13 @@ unfolding some_invalid
 returns-in-InvalidMemoryReservation c =
     sym
     (some_at _ _ c.loop-i.i c.loop-i-test.true
-    (refused-invalid _ _ _ _ c.entry_at-e.ensures c.new.ensures c.enum_told-1.given.1))
+    (refused-invalid _ _ _ _ c.entry_at-e.ensures c.new.ensures c.in-InvalidMemoryReservation.is))
 
 pub loop-i-preserved : goal.loop-i-preserved
 loop-i-preserved c =
     let l = c.loop-i in (
       search rules,
-      some_more _ l.i l.invariant.1 (taken_valid _ _ _ _ c.entry_at-e.ensures c.new.ensures _ c.enum_told-in_default-1.given.1),
+      some_more _ l.i l.invariant.1 (taken_valid _ _ _ _ c.entry_at-e.ensures c.new.ensures _ c.in_default.is),
     )
 
 pub returns : goal.returns

@@ -1,4 +1,4 @@
--- `texts_at` meets its contract: the first i strings have been written, and the next one lies within the bytes and fits.
+-- `texts_at` meets its contract: the first i strings have been written, and the next one lies (next-within (the.before.before.before.before.before).pre the.before.loop.invariant the.loop-test.true) bytes and fits.
 use Prim.Native.Nat.{◌-◌}
 use lib.ListN.{length}
 use Rattle.fdt_values.proofs.Texts.{TextsWritten}
