@@ -1,0 +1,11 @@
+-- `look_back` meets its contract. The loop's invariant: the look back from the place is the look back from the start.
+use mathlib.Core.Path.{◌≡◌}
+use Prim.Native.Nat.{◌-◌, ◌≤◌}
+use Rattle.fdt_format.specs.LookBack.{look_back}
+use Rattle.fdt_look_back.proofs.look_back.Given as goal
+
+abbrev pub invariant-loop-start : goal.invariant-loop-start
+invariant-loop-start l = (l.start ≤ l.at) × (l.at ≤ l.end) × (look_back l.blob l.end l.offset l.start ≡ look_back l.blob l.end l.offset l.at)
+
+abbrev pub decreases-loop-start : goal.decreases-loop-start
+decreases-loop-start l = l.end - l.at

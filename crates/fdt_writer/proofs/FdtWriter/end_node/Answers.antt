@@ -1,0 +1,11 @@
+-- `end_node` meets its contract: the call on the record ensures it.
+use Rattle.fdt_calls.proofs.Called.{end-node_called}
+use Rattle.fdt_writer.proofs.FdtWriter.end_node.Goals as goal
+
+pub returns : goal.returns
+returns c strings phandles = end-node_called c.wrapped.ensures c.end_node.ensures
+
+-- LOOK inline: (λ c κs. tt)
+-- LOOK inline: (λ c κs. tt)
+-- LOOK inline: (λ c. c.end_node.auto.blob.0)
+

@@ -1,0 +1,12 @@
+-- `new` meets its contract: it opens with no reservations.
+use mathlib.Core.Path.{refl}
+use Rattle.fdt_calls.proofs.Called.{new_called}
+use Rattle.fdt_writer.proofs.FdtWriter.new.Goals as goal
+
+pub returns : goal.returns
+returns c w = new_called (c.new_with_mem_reserv.ensures w)
+
+-- LOOK inline: (λ c. refl)
+-- LOOK inline: (λ c κs. tt)
+-- LOOK inline: (λ c. c.new_with_mem_reserv.auto.blob)
+

@@ -1,0 +1,12 @@
+-- `property` meets its contract: the call on the record ensures it of bytes.
+use Rattle.fdt_calls.proofs.Called.{property_called}
+use Rattle.fdt_writer.proofs.FdtWriter.property.Goals as goal
+
+pub returns : goal.returns
+returns c phandles = property_called c.wrapped.ensures c.write_bytes.ensures
+
+-- LOOK inline: (λ c κs. tt)
+-- LOOK inline: (λ c κs. tt)
+-- LOOK inline: (λ c. c.write_bytes.auto.blob.0)
+-- LOOK inline: (λ c. c.write_bytes.auto.blob.1.0)
+

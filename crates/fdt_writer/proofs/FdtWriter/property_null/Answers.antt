@@ -1,0 +1,13 @@
+-- `property_null` meets its contract: it is the property of no bytes.
+use mathlib.Core.Path.{refl}
+use Rattle.fdt_calls.proofs.Called.{property_null_called}
+use Rattle.fdt_writer.proofs.FdtWriter.property_null.Goals as goal
+
+pub returns : goal.returns
+returns c phandles = property_null_called (c.property.ensures phandles)
+
+-- LOOK inline: (λ c. refl)
+-- LOOK inline: (λ c κs. tt)
+-- LOOK inline: (λ c. c.property.auto.blob.0)
+-- LOOK inline: (λ c. c.property.auto.blob.1.0)
+

@@ -1,0 +1,13 @@
+-- `property_string` meets its contract: it is the list of one string.
+use mathlib.Core.Path.{refl}
+use Rattle.fdt_calls.proofs.Called.{property_string_called}
+use Rattle.fdt_writer.proofs.FdtWriter.property_string.Goals as goal
+
+pub returns : goal.returns
+returns c phandles = property_string_called (c.property_string_list.ensures phandles)
+
+-- LOOK inline: (λ c. refl)
+-- LOOK inline: (λ c κs. tt)
+-- LOOK inline: (λ c. c.property_string_list.auto.blob.0)
+-- LOOK inline: (λ c. c.property_string_list.auto.blob.1.0)
+
