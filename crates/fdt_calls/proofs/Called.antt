@@ -1,6 +1,6 @@
 -- What the layers below ensure of each call is that the call was made: a law for each method of `FdtWriter`.
 -- A method passes on the outcome `o` of a layer as `t`, which is equal to it.
-use mathlib.Core.Path.{◌≡◌, refl, sym, ap, ◌∙◌}
+use mathlib.Core.Path.{◌≡◌, refl, ap, ◌∙◌}
 use mathlib.Core.List.{List, [], ◌∷◌}
 use Prim.Native.Nat.{ℕ}
 use lib.ListN.{length}

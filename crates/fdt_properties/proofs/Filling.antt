@@ -12,9 +12,8 @@ use Rattle.fdt_bytes.specs.Splice.{splice}
 use Rattle.fdt_bytes.proofs.BigEndian.{length-cells}
 use Rattle.fdt_bytes.proofs.Padding.{length-zeros}
 use Rattle.fdt_bytes.proofs.Splice.{length-splice, splice-splice, splice_under}
-use Rattle.fdt_strings.specs.declared.Interned.{Interned}
 use Rattle.fdt_format.specs.Tokens.{property_token, property_bytes}
-use Rattle.fdt_values.specs.Value.{Value, raw, cells, texts, text_bytes, value_bytes, sum, misfit_value, zero_value}
+use Rattle.fdt_values.specs.Value.{Value, raw, cells, texts, value_bytes, sum, misfit_value, zero_value}
 use Rattle.fdt_values.proofs.Values.{fits-texts, length-texts}
 use Rattle.fdt_names.specs.Names.{has_zero}
 use Rattle.fdt_record.specs.Answers.{accepts}
@@ -24,8 +23,8 @@ use Rattle.fdt_record.proofs.Answers.{outcome-accepted, outcome-refused, left-ac
 use Rattle.fdt_properties.specs.declared.Measured.{Measured}
 use Rattle.fdt_properties.specs.declared.Placed.{Placed}
 use Rattle.fdt_properties.specs.declared.Tested.{Tested}
-use Rattle.fdt_properties.specs.Placeholder.{Measures, stored_at, FrameFits, framed, PropertyTested, Unfilled, Placeholder}
-use Rattle.fdt_properties.specs.Property.{place_of, place_offset, stored, written, property, property_blob, property_strings, PropertyOutcome}
+use Rattle.fdt_properties.specs.Placeholder.{Measures, stored_at, FrameFits, framed, PropertyTested, Placeholder}
+use Rattle.fdt_properties.specs.Property.{place_of, written, property, property_blob, property_strings, PropertyOutcome}
 use Rattle.fdt_properties.proofs.Places.{stored_at_lem}
 
 module _ (used offset len end : ℕ) (value blob : List ℕ) (sized : len ≡ length value) (f : FrameFits used offset len end (length blob)) where
