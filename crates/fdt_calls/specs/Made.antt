@@ -1,5 +1,5 @@
 -- What it means that a public call was made and answered by its number. The functions of fdt_numbered and export_writer state it, each of its own call;
--- those that show the blob return `shownLength`.
+-- those that show the blob return `shown_length`.
 use Rattle.std.specs.Prelude.{◌≡◌, List, ℕ, length}
 use Rattle.fdt_record.specs.Answers.{number_of}
 use Rattle.fdt_calls.specs.Calls.{Call, asks, Desk, answer, after}

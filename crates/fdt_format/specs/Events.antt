@@ -47,6 +47,6 @@ whole (means [] nodes []) = some nodes
 whole (means [] nodes (later ∷ around)) = none
 whole (means (p ∷ ps) nodes around) = none
 
--- the nodes of events: those whose events they are (`nodes-exactly`)
+-- the nodes of events: those whose events they are (`nodes_exactly`)
 unfoldable pub nodes_of : List Event → Option Nodes
 nodes_of es = whole (meaning es)

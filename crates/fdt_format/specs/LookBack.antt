@@ -12,6 +12,6 @@ looks_back b end offset (suc k) at =
     whole_at b end at
     && (eqb (word_at b (at + 8)) offset || looks_back b end offset k (at + property_size (word_at b (at + 4))))
 
--- the whole look back: a property takes at least 12 bytes, so this bound stops nothing (`look-step`)
+-- the whole look back: a property takes at least 12 bytes, so this bound stops nothing (`look_step`)
 unfoldable pub look_back : List ℕ → (end offset at : ℕ) → Bool
 look_back b end offset at = looks_back b end offset (end - at) at

@@ -31,7 +31,7 @@ good_words b =
     && eqb (word_at b 24) last_compatible
 
 -- reservations start at a multiple of 8 and the structure at a multiple of 4; structure and strings lie inside a blob of
--- this length (the all-zero pair must do so too, see `readReservations`)
+-- this length (the all-zero pair must do so too, see `read_reservations`)
 unfoldable pub good_areas : Areas → ℕ → Bool
 good_areas a n =
     eqb (a.reservations % 8) 0

@@ -1,4 +1,4 @@
--- Laws of `specs/Grammar.antt`: what `inTwo` means, a loop over every byte, and a match by its first byte.
+-- Laws of `specs/Grammar.antt`: what `in_two` means, a loop over every byte, and a match by its first byte.
 use Prim.Native.Nat.{ℕ, suc, ◌+◌, ◌<◌}
 use native.Mathlib.Numerals.{add-one}
 use mathlib.Core.Path.{◌≡◌, refl, ap, ◌∙◌}
@@ -42,7 +42,7 @@ uncut p q [] [] e f = simp (e, f)
 uncut p q [] (x ∷ b) e f = simp (e, f)
 uncut p q (x ∷ a) b e f = simp (uncut (λ front. p (x ∷ front)) q a b e f, or-true)
 
--- `inTwo` is true exactly when there is such a cut
+-- `in_two` is true exactly when there is such a cut
 pub in_two-means : (p q : List ℕ → Bool) (s : List ℕ) → in_two p q s ≡ true ↔ Cut p q s
 in_two-means p q s = (
   cut p q s,

@@ -1,4 +1,4 @@
--- The strings cut after their last 0: a name offset then meets a 0 exactly if it is before their end (`step-trimmed`).
+-- The strings cut after their last 0: a name offset then meets a 0 exactly if it is before their end (`step_trimmed`).
 use Rattle.std.specs.Prelude.{◌≡◌, cond, List, ℕ, zero, suc, ◌+◌, ◌-◌, eqb, get_or}
 use Rattle.fdt_format.specs.declared.Areas.{Areas}
 use Rattle.fdt_read_token.specs.Inside.{Inside}

@@ -26,7 +26,7 @@ abbrev pub calls_below : State → ℕ
 calls_below s = 2 * (most_open - s.depth)
 
 -- the first call's measure: 128 calls can be nested below it, because each call has a smaller measure than the one around it
--- (`fewer-calls`)
+-- (`fewer_calls`)
 pub calls_bounded : (a : Areas) → calls_below (walk_start a) ≡ 128
 unfolding walk_start
 calls_bounded a = refl

@@ -38,6 +38,6 @@ unfoldable pub reader_steps : List ℕ → Areas → ℕ → State → ReaderWal
 reader_steps b a zero s = refused_at s.at (Unreadable Structure)
 reader_steps b a (suc k) s = capped s (step_at b a s) (reader_steps b a k)
 
--- all tokens from a state on: each takes at least one byte, so this bound refuses nothing (`reader-step`)
+-- all tokens from a state on: each takes at least one byte, so this bound refuses nothing (`reader_step`)
 unfoldable pub reader_walk : List ℕ → Areas → State → ReaderWalk
 reader_walk b a s = reader_steps b a (suc (a.structure_end - s.at)) s
