@@ -20,7 +20,14 @@ pub fn zero_from(blob: &[u8], at: usize, end: usize) -> usize
     if end < at {
         return at;
     }
-    bytes::scan::find(blob, at, end, 0)
+    let mut place = at;
+    while place < end {
+        if blob[place] == 0 {
+            return place;
+        }
+        place += 1;
+    }
+    end
 }
 
 // The place after the last 0 from `from` on and before `to`; without one, `from`.
