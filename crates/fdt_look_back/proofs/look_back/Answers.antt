@@ -22,32 +22,26 @@ returns-then-size-eq0 c =
     sym (c.loop-start.invariant.2 ∙ look_none _ _ _ _ c.property_size-size.ensures c.if-size-eq0.true)
 
 pub overflow_add-at : goal.overflow_add-at
-overflow_add-at c = omega (arith, ((let w = size-whole _ _ _ c.property_size-size.ensures c.if-size-eq0.false in
-    (w.0.words, omega (arith, w.1), omega (arith, w.1, w.0.ends)))).0)
+overflow_add-at c = let w = size-whole _ _ _ c.property_size-size.ensures c.if-size-eq0.false in omega (arith, w.0.words)
 
 pub read_u32-requires : goal.read_u32-requires
-read_u32-requires c = omega (arith, ((let w = size-whole _ _ _ c.property_size-size.ensures c.if-size-eq0.false in
-    (w.0.words, omega (arith, w.1), omega (arith, w.1, w.0.ends)))).0, c.requires.1)
+read_u32-requires c = let w = size-whole _ _ _ c.property_size-size.ensures c.if-size-eq0.false in omega (arith, w.0.words, c.requires.1)
 
 pub returns-then-read_u32-offset : goal.returns-then-read_u32-offset
 returns-then-read_u32-offset c =
-    sym (c.before.before.loop.invariant.2
+    sym (c.loop-start.invariant.2
     ∙ look_found _ _ _ _ c.property_size-size.ensures c.if-size-eq0.false (sym c.read_u32.ensures ∙ c.if-read_u32-offset.true))
 
-pub overflow_add-at : goal.overflow_add-at
-overflow_add-at c = omega (arith, ((let w = size-whole _ _ _ c.property_size-size.ensures c.if-size-eq0.false in
-    (w.0.words, omega (arith, w.1), omega (arith, w.1, w.0.ends)))).2)
+pub overflow_add-at-in-loop-start : goal.overflow_add-at-in-loop-start
+overflow_add-at-in-loop-start c = let w = size-whole _ _ _ c.property_size-size.ensures c.if-size-eq0.false in omega (arith, w.1, w.0.ends)
 
 pub loop-start-smaller : goal.loop-start-smaller
-loop-start-smaller c = omega (arith, ((let w = size-whole _ _ _ c.property_size-size.ensures c.if-size-eq0.false in
-    (w.0.words, omega (arith, w.1), omega (arith, w.1, w.0.ends)))).1, ((let w = size-whole _ _ _ c.property_size-size.ensures c.if-size-eq0.false in
-    (w.0.words, omega (arith, w.1), omega (arith, w.1, w.0.ends)))).2)
+loop-start-smaller c = let w = size-whole _ _ _ c.property_size-size.ensures c.if-size-eq0.false in omega (arith, w.1, w.0.ends)
 
 pub loop-start-preserved : goal.loop-start-preserved
 loop-start-preserved c =
-    let h = c.before.before in (
-      omega (arith, h.loop.inv.0),
-      omega (arith, ((let w = size-whole _ _ _ c.property_size-size.ensures c.if-size-eq0.false in
-    (w.0.words, omega (arith, w.1), omega (arith, w.1, w.0.ends)))).2),
-      h.loop.inv.2 ∙ look_on _ _ _ _ c.property_size-size.ensures c.if-size-eq0.false (λ z. c.if-read_u32-offset.false (c.read_u32.ensures ∙ z)),
+    let w = size-whole _ _ _ c.property_size-size.ensures c.if-size-eq0.false in (
+      omega (arith, c.loop-start.invariant.0),
+      omega (arith, w.1, w.0.ends),
+      c.loop-start.invariant.2 ∙ look_on _ _ _ _ c.property_size-size.ensures c.if-size-eq0.false (λ z. c.if-read_u32-offset.false (c.read_u32.ensures ∙ z)),
     )

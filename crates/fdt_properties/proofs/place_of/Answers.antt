@@ -10,12 +10,12 @@ slice_bounds-intern_string-end c = sym (length-take-le _ _ c.requires)
 
 pub returns-in-Known : goal.returns-in-Known
 unfolding place_of
-returns-in-Known c = place_is (sym c.intern_string.ensures ∙ c.offset-1.given.1) (known_is _ _)
+returns-in-Known c = place_is (sym c.intern_string.ensures ∙ c.in-Known.is) (known_is _ _)
 
 pub returns-in-New : goal.returns-in-New
 unfolding place_of
-returns-in-New c = place_is (sym c.intern_string.ensures ∙ c.offset-in-New-1.given.1) (new_is _ _)
+returns-in-New c = place_is (sym c.intern_string.ensures ∙ c.in-New.is) (new_is _ _)
 
 pub returns-in-StringRoom : goal.returns-in-StringRoom
 unfolding place_of
-returns-in-StringRoom c = place_is (sym c.intern_string.ensures ∙ c.enum_told-1.given.1) (none_is _)
+returns-in-StringRoom c = place_is (sym c.intern_string.ensures ∙ c.in-StringRoom.is) (none_is _)

@@ -1,6 +1,5 @@
 -- `property_placeholder` meets its contract: the tests that were passed show what the two writes require.
 use mathlib.Core.Path.{sym, ◌∙◌}
-use borrow.Author.Tests.{not-false}
 use native.Mathlib.Omega.{arith}
 use Rattle.fdt_properties.proofs.Filling.{nothing_placed, placed}
 use Rattle.fdt_properties.proofs.property_placeholder.Goals as goal
@@ -19,6 +18,4 @@ overflow_add-at c =
     let f = (c.property_tests-tested.ensures.passed ((sym c.accepted.ensures ∙ c.if-not-accepted.false))).frame_fits in omega (arith, f.ends, f.within)
 
 pub returns : goal.returns
-returns c =
-    let p = (c.before.before.before.before.before.before.before.before.before) in
-    placed p.before.before.property-tests.ensures ((sym p.before.accepted.ensures ∙ not-false _ p.if1.false)) c.store_name.ensures c.put_frame.ensures
+returns c = placed c.property_tests-tested.ensures (sym c.accepted.ensures ∙ c.if-not-accepted.false) c.store_name.ensures c.put_frame.ensures

@@ -14,4 +14,3 @@ unfolding stored_at
 returns-else-added-ne0 c = sym (simp (eq-eqb c.args.added 0 c.if-added-ne0.false))
 
 -- LOOK inline: (λ c κs. c.requires c.if-added-ne0.true)
-

@@ -1,18 +1,20 @@
 -- `write_texts` meets its contract: a placeholder, filled with the strings.
+use borrow.Author.Tests.{not-true, not-false}
 use Rattle.fdt_values.specs.Value.{value_bytes}
 use Rattle.fdt_properties.proofs.Filling.{left-unfilled, filled_with, of_texts, texts_fit}
 use Rattle.fdt_property_kinds.proofs.write_texts.Goals as goal
 
 pub returns-then-not-placed : goal.returns-then-not-placed
 returns-then-not-placed c =
-    left-unfilled (c.property_placeholder-placed.ensures _ (of_texts _ _ c.before.sums-to.ensures c.has_zero_lem.ensures)) (c.if-not-placed.true)
+    left-unfilled (c.property_placeholder-placed.ensures _ (of_texts _ _ c.sums_to.ensures c.has_zero.ensures)) (not-true _ c.if-not-placed.true)
 
 pub texts_at-requires : goal.texts_at-requires
 texts_at-requires c =
-    let a = ((c.before.before.before.before.before.before.before.before.before.before.before.before.before.before.before.before.before.before)).args in
-    texts_fit (c.property_placeholder-placed.ensures _ (of_texts a.joined.now a.lengths.now c.before.sums-to.ensures c.has_zero_lem.ensures)) (c.if-not-placed.false)
+    let a = c.args in
+    let t = texts_fit (c.property_placeholder-placed.ensures _ (of_texts a.joined.now a.lengths.now c.sums_to.ensures c.has_zero.ensures)) (not-false _ c.if-not-placed.false) in
+    record { lengths_value = t.0; lengths_in_bounds = t.1 }
 
 pub returns : goal.returns
 unfolding value_bytes
 returns c =
-    filled_with (c.property_placeholder-placed.ensures _ (of_texts _ _ c.before.sums-to.ensures c.has_zero_lem.ensures)) (c.if-not-placed.false) c.texts_at.ensures
+    filled_with (c.property_placeholder-placed.ensures _ (of_texts _ _ c.sums_to.ensures c.has_zero.ensures)) (not-false _ c.if-not-placed.false) c.texts_at.ensures
