@@ -12,5 +12,3 @@ returns-then-added-ne0 c =
 pub returns-else-added-ne0 : goal.returns-else-added-ne0
 unfolding stored_at
 returns-else-added-ne0 c = sym (simp (eq-eqb c.args.added 0 c.if-added-ne0.false))
-
--- LOOK inline: (λ c κs. c.requires c.if-added-ne0.true)

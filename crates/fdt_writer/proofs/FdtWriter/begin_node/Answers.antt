@@ -4,8 +4,3 @@ use Rattle.fdt_writer.proofs.FdtWriter.begin_node.Goals as goal
 
 pub returns : goal.returns
 returns c strings phandles = begin-node_called c.wrapped_node.ensures c.begin_node.ensures
-
--- LOOK inline: (λ c κs. tt)
--- LOOK inline: (λ c κs. tt)
--- LOOK inline: (λ c. c.begin_node.auto.blob.0)
-

@@ -4,8 +4,3 @@ use Rattle.fdt_writer.proofs.FdtWriter.end_node.Goals as goal
 
 pub returns : goal.returns
 returns c strings phandles = end-node_called c.wrapped.ensures c.end_node.ensures
-
--- LOOK inline: (λ c κs. tt)
--- LOOK inline: (λ c κs. tt)
--- LOOK inline: (λ c. c.end_node.auto.blob.0)
-

@@ -4,8 +4,3 @@ use Rattle.fdt_writer.proofs.FdtWriter.finish.Goals as goal
 
 pub returns : goal.returns
 returns c phandles = finish_called c.wrapped.ensures c.finish.ensures
-
--- LOOK inline: (λ c κs. tt)
--- LOOK inline: (λ c κs. tt)
--- LOOK inline: (λ c. c.finish.auto.blob.0)
-

@@ -5,8 +5,3 @@ use Rattle.fdt_writer.proofs.FdtWriter.new.Goals as goal
 
 pub returns : goal.returns
 returns c w = new_called (c.new_with_mem_reserv.ensures w)
-
--- LOOK inline: (λ c. refl)
--- LOOK inline: (λ c κs. tt)
--- LOOK inline: (λ c. c.new_with_mem_reserv.auto.blob)
-

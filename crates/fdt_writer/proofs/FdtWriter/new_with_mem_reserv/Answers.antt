@@ -4,8 +4,3 @@ use Rattle.fdt_writer.proofs.FdtWriter.new_with_mem_reserv.Goals as goal
 
 pub returns : goal.returns
 returns c w = new_with_mem_reserv_called c.wrapped.ensures c.«open».ensures
-
--- LOOK inline: (λ c κs. tt)
--- LOOK inline: (λ c κs. tt)
--- LOOK inline: (λ c. c.«open».auto.0)
-

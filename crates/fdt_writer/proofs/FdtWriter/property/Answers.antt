@@ -4,9 +4,3 @@ use Rattle.fdt_writer.proofs.FdtWriter.property.Goals as goal
 
 pub returns : goal.returns
 returns c phandles = property_called c.wrapped.ensures c.write_bytes.ensures
-
--- LOOK inline: (λ c κs. tt)
--- LOOK inline: (λ c κs. tt)
--- LOOK inline: (λ c. c.write_bytes.auto.blob.0)
--- LOOK inline: (λ c. c.write_bytes.auto.blob.1.0)
-

@@ -4,9 +4,3 @@ use Rattle.fdt_writer.proofs.FdtWriter.property_array_u32.Goals as goal
 
 pub returns : goal.returns
 returns c phandles = property_array_u32_called c.wrapped.ensures c.write_cells.ensures
-
--- LOOK inline: (λ c κs. tt)
--- LOOK inline: (λ c κs. tt)
--- LOOK inline: (λ c. c.write_cells.auto.blob.0)
--- LOOK inline: (λ c. c.write_cells.auto.blob.1.0)
-

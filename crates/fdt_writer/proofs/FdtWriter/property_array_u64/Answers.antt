@@ -4,9 +4,3 @@ use Rattle.fdt_writer.proofs.FdtWriter.property_array_u64.Goals as goal
 
 pub returns : goal.returns
 returns c phandles = property_array_u64_called c.wrapped.ensures c.write_wide_cells.ensures
-
--- LOOK inline: (λ c κs. tt)
--- LOOK inline: (λ c κs. tt)
--- LOOK inline: (λ c. c.write_wide_cells.auto.blob.0)
--- LOOK inline: (λ c. c.write_wide_cells.auto.blob.1.0)
-

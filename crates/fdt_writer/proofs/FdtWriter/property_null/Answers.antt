@@ -5,9 +5,3 @@ use Rattle.fdt_writer.proofs.FdtWriter.property_null.Goals as goal
 
 pub returns : goal.returns
 returns c phandles = property_null_called (c.property.ensures phandles)
-
--- LOOK inline: (λ c. refl)
--- LOOK inline: (λ c κs. tt)
--- LOOK inline: (λ c. c.property.auto.blob.0)
--- LOOK inline: (λ c. c.property.auto.blob.1.0)
-

@@ -4,10 +4,3 @@ use Rattle.fdt_writer.proofs.FdtWriter.property_phandle.Goals as goal
 
 pub returns : goal.returns
 returns c = property-phandle_called c.wrapped.ensures c.property_phandle.ensures
-
--- LOOK inline: (λ c κs. tt)
--- LOOK inline: (λ c κs. tt)
--- LOOK inline: (λ c. c.property_phandle.auto.blob.0)
--- LOOK inline: (λ c. c.property_phandle.auto.blob.1.0)
--- LOOK inline: (λ c. c.property_phandle.auto.blob.1.1.0)
-

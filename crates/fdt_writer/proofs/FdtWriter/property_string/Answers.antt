@@ -5,9 +5,3 @@ use Rattle.fdt_writer.proofs.FdtWriter.property_string.Goals as goal
 
 pub returns : goal.returns
 returns c phandles = property_string_called (c.property_string_list.ensures phandles)
-
--- LOOK inline: (λ c. refl)
--- LOOK inline: (λ c κs. tt)
--- LOOK inline: (λ c. c.property_string_list.auto.blob.0)
--- LOOK inline: (λ c. c.property_string_list.auto.blob.1.0)
-

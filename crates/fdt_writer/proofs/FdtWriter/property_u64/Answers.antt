@@ -5,9 +5,3 @@ use Rattle.fdt_writer.proofs.FdtWriter.property_u64.Goals as goal
 
 pub returns : goal.returns
 returns c phandles = property_u64_called (c.property_array_u64.ensures phandles)
-
--- LOOK inline: (λ c. refl)
--- LOOK inline: (λ c κs. tt)
--- LOOK inline: (λ c. c.property_array_u64.auto.blob.0)
--- LOOK inline: (λ c. c.property_array_u64.auto.blob.1.0)
-
