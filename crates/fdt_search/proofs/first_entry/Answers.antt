@@ -15,8 +15,7 @@ returns-then-starts_with c = record { inside = omega arith; found = λ h. c.star
 
 pub loop-gap-init : goal.loop-gap-init
 loop-gap-init c =
-    let own = c.first_clues-c.ensures in
-    (
+    let own = c.first_clues-c.ensures in (
       omega arith,
       own,
       no_entry_nowhere _ _ _ 0 _ own
