@@ -1,3 +1,2 @@
 // The public calls as definitions. There is no code here.
 #![tactic(auto)]
-

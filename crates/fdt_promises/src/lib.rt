@@ -1,3 +1,2 @@
 // Theorems over the calls of the writer. There is no code here.
 #![tactic(auto)]
-

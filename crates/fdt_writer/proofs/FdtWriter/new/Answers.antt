@@ -1,5 +1,4 @@
 -- `new` meets its contract: it opens with no reservations.
-use mathlib.Core.Path.{refl}
 use Rattle.fdt_calls.proofs.Called.{new_called}
 use Rattle.fdt_writer.proofs.FdtWriter.new.Goals as goal
 

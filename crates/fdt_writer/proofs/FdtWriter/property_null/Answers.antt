@@ -1,5 +1,4 @@
 -- `property_null` meets its contract: it is the property of no bytes.
-use mathlib.Core.Path.{refl}
 use Rattle.fdt_calls.proofs.Called.{property_null_called}
 use Rattle.fdt_writer.proofs.FdtWriter.property_null.Goals as goal
 

@@ -1,5 +1,4 @@
 -- `property_string` meets its contract: it is the list of one string.
-use mathlib.Core.Path.{refl}
 use Rattle.fdt_calls.proofs.Called.{property_string_called}
 use Rattle.fdt_writer.proofs.FdtWriter.property_string.Goals as goal
 

@@ -1,5 +1,4 @@
 -- `property_u32` meets its contract: it is the array of one number.
-use mathlib.Core.Path.{refl}
 use Rattle.fdt_calls.proofs.Called.{property_u32_called}
 use Rattle.fdt_writer.proofs.FdtWriter.property_u32.Goals as goal
 

@@ -1,5 +1,4 @@
 -- `property_u64` meets its contract: it is the array of one number.
-use mathlib.Core.Path.{refl}
 use Rattle.fdt_calls.proofs.Called.{property_u64_called}
 use Rattle.fdt_writer.proofs.FdtWriter.property_u64.Goals as goal
 
