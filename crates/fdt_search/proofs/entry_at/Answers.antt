@@ -2,7 +2,6 @@
 use mathlib.Core.Bool.{false≢true}
 use native.Mathlib.Omega.{arith}
 use Rattle.fdt_search.proofs.entry_at.Goals as goal
-use Rattle.fdt_search.proofs.entry_at.Goals.{then-place-gt0+else-s-place-ne-END-2, else-place-gt0}
 
 pub returns-then-s-place-ne-END : goal.returns-then-s-place-ne-END
 returns-then-s-place-ne-END c = (λ e. absurd (false≢true e), λ w. absurd (c.if-s-place-ne-END.true w.ended))
@@ -16,7 +15,7 @@ returns c = (
     fits = omega arith;
     bytes = c.same_plain.ensures.0 e;
     ended = c.if-s-place-ne-END.false;
-    begun = λ h. elim c.if-place-gt0.branch [ then-place-gt0+else-s-place-ne-END-2 w ↦ w.if-s-place-ne-END-2.false | else-place-gt0 w ↦ absurd (omega arith) ];
+    begun = λ h. grind arith;
   },
   λ w. c.same_plain.ensures.1 w.bytes,
 )
