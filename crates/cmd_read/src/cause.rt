@@ -3,7 +3,7 @@ use fdt_format::{Areas, FDT_BEGIN_NODE, FDT_END, FDT_END_NODE, FDT_PROP, Unreada
 use fdt_header::Header;
 use fdt_walk::{Fault, Refusal};
 use text_words::out;
-use text_words::out::Out;
+use text_words::out::{Out, Stream};
 
 // The causes, a row each. `#` stands for the cause's number, `$` for the same in hexadecimal, and `%` for the length of the blob.
 const CAUSES: [u8; 958] = *b"a header has 40 bytes, and the blob has %\n\
@@ -178,10 +178,7 @@ fn reading_cause(blob: &[u8], reason: Unreadable, place: usize) -> Cause {
     match reason {
         Unreadable::Reservations => alone(RESERVATIONS),
         Unreadable::Structure => token_cause(blob, place, structure_end(blob)),
-        Unreadable::NameOffset => with(
-            NAME_OFFSET,
-            word(blob, std::num::wrapping_add_usize(place, 8)) as u64,
-        ),
+        Unreadable::NameOffset => with(NAME_OFFSET, word(blob, place.wrapping_add(8)) as u64),
     }
 }
 
@@ -195,43 +192,54 @@ fn cause_of(blob: &[u8], refusal: Refusal, place: usize) -> Cause {
 }
 
 // A byte of a row, or what it stands for.
-fn put(o: Out, b: u8, n: u64, length: u64) -> Out {
+fn put(rt: &(impl Print + Eprint), o: Out, b: u8, n: u64, length: u64) -> Out {
     match b {
-        b'#' => out::decimal(o, n),
-        b'$' => out::hex(o, n, 8),
-        b'%' => out::decimal(o, length),
-        _ => out::byte(o, b),
+        b'#' => out::decimal(rt, o, n),
+        b'$' => out::hex(rt, o, n, 8),
+        b'%' => out::decimal(rt, o, length),
+        _ => out::byte(rt, o, b),
     }
 }
 
 // A row with its numbers.
-fn row(mut o: Out, text: &[u8], n: u64, length: u64) -> Out {
+fn row(rt: &(impl Print + Eprint), mut o: Out, text: &[u8], n: u64, length: u64) -> Out {
     let mut i = 0;
     while i < text.len() {
-        o = put(o, text[i], n, length);
+        o = put(rt, o, text[i], n, length);
         i += 1;
     }
     o
 }
 
 // The sentence of a cause.
-fn sentence(o: Out, c: Cause, length: u64) -> Out {
-    row(o, text_words::nth(&CAUSES, c.row, b'\n'), c.number, length)
+fn sentence(rt: &(impl Print + Eprint), o: Out, c: Cause, length: u64) -> Out {
+    row(
+        rt,
+        o,
+        text_words::nth(&CAUSES, c.row, b'\n'),
+        c.number,
+        length,
+    )
 }
 
 // The number of a refusal and its place.
-fn heading(number: u64, place: u64) -> Out {
-    let o = out::text(out::to(libc::STDERR_FILENO), b"refused ");
-    let o = out::text(out::decimal(o, number), b" at ");
-    out::byte(out::byte(out::decimal(o, place), b':'), b' ')
+fn heading(rt: &(impl Print + Eprint), number: u64, place: u64) -> Out {
+    let o = out::text(rt, out::to(Stream::Stderr), b"refused ");
+    let o = out::text(rt, out::decimal(rt, o, number), b" at ");
+    out::byte(rt, out::byte(rt, out::decimal(rt, o, place), b':'), b' ')
 }
 
 // Says why a blob is refused, and where.
-pub fn refused(blob: &[u8], fault: Fault) {
+pub fn refused(rt: &(impl Print + Eprint), blob: &[u8], fault: Fault) {
     let refusal = fault.refusal;
     let number = fdt_walk::number(refusal);
     let place = fault.place;
     let c = cause_of(blob, refusal, place);
-    let o = sentence(heading(number as u64, place as u64), c, blob.len() as u64);
-    out::flush(out::byte(o, b'\n'));
+    let o = sentence(
+        rt,
+        heading(rt, number as u64, place as u64),
+        c,
+        blob.len() as u64,
+    );
+    out::flush(rt, out::byte(rt, o, b'\n'));
 }

@@ -2,21 +2,21 @@
 use fdt_format::Entry;
 use fdt_reader::ReadAnswer;
 use text_words::out;
-use text_words::out::Out;
+use text_words::out::{Out, Stream};
 
 // A number, and the byte after it.
-fn number(o: Out, n: u64, after: u8) -> Out {
-    out::byte(out::decimal(o, n), after)
+fn number(rt: &(impl Print + Eprint), o: Out, n: u64, after: u8) -> Out {
+    out::byte(rt, out::decimal(rt, o, n), after)
 }
 
 // The number of the answer, the boot number, and how many reservations and entries there are.
-fn first(answer: ReadAnswer) -> Out {
+fn first(rt: &(impl Print + Eprint), answer: ReadAnswer) -> Out {
     let v = fdt_reader::values_of(answer);
-    let o = out::to(libc::STDOUT_FILENO);
-    let o = number(o, fdt_reader::number(answer) as u64, b' ');
-    let o = number(o, v.boot as u64, b' ');
-    let o = number(o, v.reservations as u64, b' ');
-    number(o, v.entries as u64, b'\n')
+    let o = out::to(Stream::Stdout);
+    let o = number(rt, o, fdt_reader::number(answer) as u64, b' ');
+    let o = number(rt, o, v.boot as u64, b' ');
+    let o = number(rt, o, v.reservations as u64, b' ');
+    number(rt, o, v.entries as u64, b'\n')
 }
 
 // An entry of the list; all 0 if it has fewer.
@@ -39,21 +39,21 @@ pub fn entry(list: &[u32], n: usize) -> Entry {
 }
 
 // The line of an entry.
-fn line(o: Out, t: Entry) -> Out {
-    let o = number(o, t.token as u64, b' ');
-    let o = number(o, t.place as u64, b' ');
-    let o = number(o, t.name as u64, b' ');
-    number(o, t.size as u64, b'\n')
+fn line(rt: &(impl Print + Eprint), o: Out, t: Entry) -> Out {
+    let o = number(rt, o, t.token as u64, b' ');
+    let o = number(rt, o, t.place as u64, b' ');
+    let o = number(rt, o, t.name as u64, b' ');
+    number(rt, o, t.size as u64, b'\n')
 }
 
 // The first line, and a line of four numbers for each entry.
-pub fn all(list: &[u32], answer: ReadAnswer) -> Out {
-    let mut o = first(answer);
+pub fn all(rt: &(impl Print + Eprint), list: &[u32], answer: ReadAnswer) -> Out {
+    let mut o = first(rt, answer);
     let v = fdt_reader::values_of(answer);
     let entries = v.entries;
     let mut n = 0;
     while n < entries && o.whole {
-        o = line(o, entry(list, n));
+        o = line(rt, o, entry(list, n));
         n += 1;
     }
     o

@@ -3,7 +3,7 @@ use crate::entries;
 use fdt_format::{Areas, Entry, FDT_BEGIN_NODE, FDT_PROP};
 use fdt_header::RESERVATION_SIZE;
 use text_words::out;
-use text_words::out::Out;
+use text_words::out::{Out, Stream};
 
 // A name in the blob: its bytes up to the next 0.
 fn name_at(blob: &[u8], at: u32) -> &[u8] {
@@ -11,8 +11,8 @@ fn name_at(blob: &[u8], at: u32) -> &[u8] {
 }
 
 // The end of a line, after a byte.
-fn ended(o: Out, b: u8) -> Out {
-    out::byte(out::byte(o, b), b'\n')
+fn ended(rt: &(impl Print + Eprint), o: Out, b: u8) -> Out {
+    out::byte(rt, out::byte(rt, o, b), b'\n')
 }
 
 // The number of 8 bytes at a place; 0 if there is none.
@@ -27,46 +27,55 @@ fn wide(blob: &[u8], at: usize) -> u64 {
 }
 
 // The line of a reservation.
-fn reservation(o: Out, address: u64, size: u64) -> Out {
-    let o = text_source::number(out::text(o, b"/memreserve/\t"), address, 16);
-    ended(text_source::number(out::byte(o, b' '), size, 16), b';')
+fn reservation(rt: &(impl Print + Eprint), o: Out, address: u64, size: u64) -> Out {
+    let o = text_source::number(rt, out::text(rt, o, b"/memreserve/\t"), address, 16);
+    ended(
+        rt,
+        text_source::number(rt, out::byte(rt, o, b' '), size, 16),
+        b';',
+    )
 }
 
 // The lines before the reservations, with the boot number.
-fn first(boot: u32) -> Out {
+fn first(rt: &(impl Print + Eprint), boot: u32) -> Out {
     let o = out::text(
-        out::to(libc::STDOUT_FILENO),
+        rt,
+        out::to(Stream::Stdout),
         b"/dts-v1/;\n// boot_cpuid_phys: ",
     );
-    ended(text_source::number(o, boot as u64, 1), b'\n')
+    ended(rt, text_source::number(rt, o, boot as u64, 1), b'\n')
 }
 
 // The lines before the first node.
-fn front(blob: &[u8], a: Areas, reservations: usize) -> Out {
-    let mut o = first(a.boot);
+fn front(rt: &(impl Print + Eprint), blob: &[u8], a: Areas, reservations: usize) -> Out {
+    let mut o = first(rt, a.boot);
     let mut at = a.reservations;
     let mut left = reservations;
     while 0 < left {
-        let size = wide(blob, std::num::wrapping_add_usize(at, 8));
-        o = reservation(o, wide(blob, at), size);
-        at = std::num::wrapping_add_usize(at, RESERVATION_SIZE);
+        let size = wide(blob, at.wrapping_add(8));
+        o = reservation(rt, o, wide(blob, at), size);
+        at = at.wrapping_add(RESERVATION_SIZE);
         left -= 1;
     }
     o
 }
 
 // An empty line, except before the first node.
-fn apart(o: Out, first: bool) -> Out {
+fn apart(rt: &(impl Print + Eprint), o: Out, first: bool) -> Out {
     if first {
         return o;
     }
-    out::byte(o, b'\n')
+    out::byte(rt, o, b'\n')
 }
 
 // The line that begins a node.
-fn begin(o: Out, name: &[u8], depth: usize, first: bool) -> Out {
-    let o = text_source::indent(apart(o, first), depth);
-    ended(out::byte(text_source::node_name(o, name), b' '), b'{')
+fn begin(rt: &(impl Print + Eprint), o: Out, name: &[u8], depth: usize, first: bool) -> Out {
+    let o = text_source::indent(rt, apart(rt, o, first), depth);
+    ended(
+        rt,
+        out::byte(rt, text_source::node_name(rt, o, name), b' '),
+        b'{',
+    )
 }
 
 // The value of a property.
@@ -76,43 +85,61 @@ fn value_of(blob: &[u8], t: Entry) -> &[u8] {
 }
 
 // The line of a property.
-fn property(o: Out, blob: &[u8], t: Entry, depth: usize) -> Out {
-    let o = text_source::name(text_source::indent(o, depth), name_at(blob, t.name));
-    ended(text_source::value(o, value_of(blob, t)), b';')
+fn property(rt: &(impl Print + Eprint), o: Out, blob: &[u8], t: Entry, depth: usize) -> Out {
+    let o = text_source::name(rt, text_source::indent(rt, o, depth), name_at(blob, t.name));
+    ended(rt, text_source::value(rt, o, value_of(blob, t)), b';')
 }
 
 // The line that ends a node.
-fn end(o: Out, depth: usize) -> Out {
-    ended(out::byte(text_source::indent(o, depth), b'}'), b';')
+fn end(rt: &(impl Print + Eprint), o: Out, depth: usize) -> Out {
+    ended(
+        rt,
+        out::byte(rt, text_source::indent(rt, o, depth), b'}'),
+        b';',
+    )
 }
 
 // How many nodes are open after an entry.
 fn deeper(depth: usize, token: u32) -> usize {
     match token {
-        FDT_BEGIN_NODE => std::num::wrapping_add_usize(depth, 1),
+        FDT_BEGIN_NODE => depth.wrapping_add(1),
         FDT_PROP => depth,
-        _ => std::num::wrapping_sub_usize(depth, 1),
+        _ => depth.wrapping_sub(1),
     }
 }
 
 // The line of an entry.
-fn line(o: Out, blob: &[u8], t: Entry, depth: usize, first: bool) -> Out {
+fn line(
+    rt: &(impl Print + Eprint),
+    o: Out,
+    blob: &[u8],
+    t: Entry,
+    depth: usize,
+    first: bool,
+) -> Out {
     let token = t.token;
     match token {
-        FDT_BEGIN_NODE => begin(o, name_at(blob, t.name), depth, first),
-        FDT_PROP => property(o, blob, t, depth),
-        _ => end(o, std::num::wrapping_sub_usize(depth, 1)),
+        FDT_BEGIN_NODE => begin(rt, o, name_at(blob, t.name), depth, first),
+        FDT_PROP => property(rt, o, blob, t, depth),
+        _ => end(rt, o, depth.wrapping_sub(1)),
     }
 }
 
 // The whole tree.
-pub fn all(blob: &[u8], a: Areas, reservations: usize, entries: usize, list: &[u32]) -> Out {
-    let mut o = front(blob, a, reservations);
+pub fn all(
+    rt: &(impl Print + Eprint),
+    blob: &[u8],
+    a: Areas,
+    reservations: usize,
+    entries: usize,
+    list: &[u32],
+) -> Out {
+    let mut o = front(rt, blob, a, reservations);
     let mut depth = 0;
     let mut n = 0;
     while n < entries && o.whole {
         let t = entries::entry(list, n);
-        o = line(o, blob, t, depth, n == 0);
+        o = line(rt, o, blob, t, depth, n == 0);
         depth = deeper(depth, t.token);
         n += 1;
     }

@@ -60,7 +60,7 @@ fn begin(mut d: Desk, name: &[u8]) -> Desk {
 
 // A property of bytes, or an empty one.
 fn bytes(mut d: Desk, name: &[u8], values: &[u8]) -> Desk {
-    let mut val = io::large_buffer();
+    let mut val = room::bytes();
     let n = given::bytes(values, true, &mut val);
     let mut blob = d.blob;
     let mut strings = d.strings;
@@ -73,7 +73,7 @@ fn bytes(mut d: Desk, name: &[u8], values: &[u8]) -> Desk {
 
 // A property of strings.
 fn texts(mut d: Desk, name: &[u8], values: &[u8]) -> Desk {
-    let mut val = io::large_buffer();
+    let mut val = room::bytes();
     let mut lengths = room::lengths();
     let n = given::bytes(values, false, &mut val);
     let k = given::lengths(values, &mut lengths);

@@ -31,7 +31,7 @@ fn front(pairs: &Pairs, used: usize) -> &[u64] {
 
 // A desk whose writer is opened with reservations.
 pub fn opened(pairs: Pairs, used: usize) -> Desk {
-    let mut blob = io::large_buffer();
+    let mut blob = text_calls::room::bytes();
     let strings = text_calls::room::names();
     let phandles = [0; 256];
     let a = FdtWriter::new_with_mem_reserv(&mut blob, &strings, &phandles, front(&pairs, used));

@@ -3,33 +3,42 @@ use crate::desk::Desk;
 use crate::{calls, desk};
 use text_calls::line::Line;
 use text_calls::{line, told, verbs};
+use text_words::out;
+use text_words::out::Stream;
 
 // Says that line n is no call, and stops.
-fn wrong(mut d: Desk, n: u64, form: usize) -> Desk {
-    told::wrong(n, form);
+fn wrong(rt: &(impl Print + Eprint), mut d: Desk, n: u64, form: usize) -> Desk {
+    told::wrong(rt, n, form);
     d.stop = 1;
     d
 }
 
 // Makes the call of line n; says what is wrong with it, or why it is refused. `before` are the lines before it.
-fn run_line(d: Desk, n: u64, before: &[u8], line: &[u8], l: Line) -> Desk {
+fn run_line(
+    rt: &(impl Print + Eprint),
+    d: Desk,
+    n: u64,
+    before: &[u8],
+    line: &[u8],
+    l: Line,
+) -> Desk {
     if !l.right {
-        return wrong(d, n, l.verb);
+        return wrong(rt, d, n, l.verb);
     }
     if d.late && l.verb == verbs::RESERVE {
-        return wrong(d, n, told::LATE);
+        return wrong(rt, d, n, told::LATE);
     }
     let next = calls::run(d, line, l);
     if next.stop == told::TWICE {
-        told::twice(n, l.verb, before, line::name(line, l.name, l.end));
+        told::twice(rt, n, l.verb, before, line::name(line, l.name, l.end));
     } else if next.stop != 0 {
-        told::refused(n, l.verb, next.stop);
+        told::refused(rt, n, l.verb, next.stop);
     }
     next
 }
 
 // Finishes the blob and writes it.
-fn finish(d: Desk, n: u64) {
+fn finish(rt: &(impl Print + Eprint), d: Desk, n: u64) {
     let mut blob = d.blob;
     let strings = d.strings;
     let w = d.writer;
@@ -37,32 +46,32 @@ fn finish(d: Desk, n: u64) {
     let answer = a.answer;
     let refusal = fdt_record::number(answer);
     if refusal != 0 {
-        told::refused(n, verbs::BLANK, refusal);
+        told::refused(rt, n, verbs::BLANK, refusal);
         return;
     }
     let shown = a.writer;
-    if !io::write_all(libc::STDOUT_FILENO, shown.show(&blob)) {
-        told::text(b"the blob cannot be written\n");
+    if !out::write_all(rt, Stream::Stdout, shown.show(&blob)) {
+        told::text(rt, b"the blob cannot be written\n");
     }
 }
 
 // Makes the calls of a list, finishes the blob and writes it; a line that is wrong or refused ends this.
-pub fn run(lines: &[u8]) {
+pub fn run(rt: &(impl Print + Eprint), lines: &[u8]) {
     let mut d = desk::opened([0; 130], 0);
     let mut at = 0;
-    let mut n = 0;
+    let mut n: u64 = 0;
     while at < lines.len() {
         let before = text_words::part(lines, 0, at);
         let line = line::at(lines, at);
         at = text_words::next(lines, at, b'\n');
-        n = std::num::wrapping_add_u64(n, 1);
+        n = n.wrapping_add(1);
         let l = line::read(line);
         if l.verb != verbs::BLANK {
-            d = run_line(d, n, before, line, l);
+            d = run_line(rt, d, n, before, line, l);
             if d.stop != 0 {
                 return;
             }
         }
     }
-    finish(d, n);
+    finish(rt, d, n);
 }

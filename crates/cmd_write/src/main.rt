@@ -7,14 +7,15 @@ mod desk;
 mod list;
 
 // Reads the list and runs it.
-fn main() {
+fn main(rt: HostRuntime) {
     let mut input = text_words::input::room();
     let n = text_words::input::read(
+        &rt,
         &mut input,
         b"the list cannot be read\n",
         b"the list is longer than 1048575 bytes\n",
     );
     if n < 1_048_576 {
-        list::run(&input[..n]);
+        list::run(&rt, &input[..n]);
     }
 }

@@ -1,5 +1,5 @@
 // The values of a line, in tables. Values that a table has no room for are left out: a blob has no room for them either.
-ghost use Rattle.io.specs.Counts.{IsPrefixLen};
+ghost use Rattle.std.specs.Counts.{IsPrefixLen};
 
 use crate::{numbers, texts};
 
@@ -11,7 +11,7 @@ pub fn bytes(line: &[u8], hex: bool, out: &mut [u8]) -> usize
     let mut i = 0;
     while i < line.len() {
         v = texts::step(v, line[i], hex);
-        let k = std::num::wrapping_sub_usize(v.bytes, 1);
+        let k = v.bytes.wrapping_sub(1);
         if k < out.len() {
             out[k] = v.byte;
         }
@@ -32,7 +32,7 @@ pub fn lengths(line: &[u8], out: &mut [usize]) -> usize
     let mut i = 0;
     while i < line.len() {
         v = texts::step(v, line[i], false);
-        let k = std::num::wrapping_sub_usize(v.count, 1);
+        let k = v.count.wrapping_sub(1);
         if k < out.len() {
             out[k] = v.length;
         }
@@ -54,7 +54,7 @@ pub fn cells(line: &[u8], out: &mut [u32]) -> usize
     while i < line.len() {
         v = numbers::step(v, line[i], 0xffff_ffff);
         let n = low(v.value);
-        let k = std::num::wrapping_sub_usize(v.count, 1);
+        let k = v.count.wrapping_sub(1);
         if k < out.len() {
             out[k] = n;
         }
@@ -75,7 +75,7 @@ pub fn wide(line: &[u8], out: &mut [u64]) -> usize
     let mut i = 0;
     while i < line.len() {
         v = numbers::step(v, line[i], 0xffff_ffff_ffff_ffff);
-        let k = std::num::wrapping_sub_usize(v.count, 1);
+        let k = v.count.wrapping_sub(1);
         if k < out.len() {
             out[k] = v.value;
         }

@@ -136,7 +136,7 @@ pub fn read(line: &[u8]) -> Line {
 // The name of a line; `""` is the empty name.
 pub fn name(line: &[u8], from: usize, to: usize) -> &[u8] {
     let word = text_words::part(line, from, to);
-    if check::same(word, b"\"\"") {
+    if word == b"\"\"".as_slice() {
         text_words::part(word, 0, 0)
     } else {
         word

@@ -41,7 +41,7 @@ fn step(mut v: Nodes, n: u64, line: &[u8], at: usize, name: &[u8]) -> Nodes {
         verbs::END => ended(v),
         verbs::RESERVE | verbs::BOOT | verbs::BLANK => v,
         _ => {
-            if check::same(line::name(line, l.name, l.end), name) {
+            if line::name(line, l.name, l.end) == name {
                 v.given = n;
             }
             v
@@ -57,9 +57,9 @@ pub fn after(lines: &[u8], name: &[u8]) -> Nodes {
         given: 0,
     };
     let mut at = 0;
-    let mut n = 0;
+    let mut n: u64 = 0;
     while at < lines.len() {
-        n = std::num::wrapping_add_u64(n, 1);
+        n = n.wrapping_add(1);
         v = step(v, n, line::at(lines, at), at, name);
         at = text_words::next(lines, at, b'\n');
     }

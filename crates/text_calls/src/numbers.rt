@@ -55,7 +55,7 @@ fn begun(v: Numbers, b: u8, most: u64) -> Numbers {
         state: number::NONE,
         value: 0,
         before: v.value,
-        count: std::num::wrapping_add_usize(v.count, 1),
+        count: v.count.wrapping_add(1),
     };
     longer(next, b, most)
 }

@@ -8,6 +8,13 @@ pub fn names() -> [u8; 8_192]
     [0; 8_192]
 }
 
+// The bytes of a blob, as long as its ceiling; no line's values have more.
+pub fn bytes() -> [u8; 65_536]
+    ensures { 65536 ≡ length result }
+{
+    [0; 65_536]
+}
+
 // The lengths of a line's strings. No blob has room for this many, even if all are empty.
 pub fn lengths() -> [usize; 65_536]
     ensures { 65536 ≡ length result }

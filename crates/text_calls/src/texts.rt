@@ -59,8 +59,8 @@ fn put(v: Texts, b: u8, state: u8) -> Texts {
     Texts {
         state,
         count: v.count,
-        bytes: std::num::wrapping_add_usize(v.bytes, 1),
-        length: std::num::wrapping_add_usize(v.length, 1),
+        bytes: v.bytes.wrapping_add(1),
+        length: v.length.wrapping_add(1),
         byte: b,
     }
 }
@@ -69,7 +69,7 @@ fn put(v: Texts, b: u8, state: u8) -> Texts {
 fn begun(v: Texts, state: u8) -> Texts {
     Texts {
         state,
-        count: std::num::wrapping_add_usize(v.count, 1),
+        count: v.count.wrapping_add(1),
         bytes: v.bytes,
         length: 0,
         byte: v.byte,

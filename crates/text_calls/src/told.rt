@@ -1,7 +1,8 @@
 // The message for a list that is wrong or refused: one line on standard error.
 use crate::nodes;
 use crate::nodes::Nodes;
-use libc::STDERR_FILENO;
+use text_words::out;
+use text_words::out::Stream;
 
 // What each refusal up to 19 means, by its number.
 const REFUSALS: [u8; 796] = *b"\n\
@@ -62,63 +63,63 @@ pub const LATE: usize = 12;
 pub const TWICE: u32 = 20;
 
 // Writes bytes as they are.
-pub fn text(s: &[u8]) {
-    io::write_all(STDERR_FILENO, s);
+pub fn text(rt: &(impl Print + Eprint), s: &[u8]) {
+    out::write_all(rt, Stream::Stderr, s);
 }
 
 // Writes the number n of a line, and row k of the messages.
-fn line(n: u64, rows: &[u8], k: usize) {
-    text(b"line ");
-    io::print_decimal(STDERR_FILENO, n);
-    text(b": ");
-    text(text_words::nth(rows, k, b'\n'));
+fn line(rt: &(impl Print + Eprint), n: u64, rows: &[u8], k: usize) {
+    text(rt, b"line ");
+    out::print_decimal(rt, Stream::Stderr, n);
+    text(rt, b": ");
+    text(rt, text_words::nth(rows, k, b'\n'));
 }
 
 // Says that line n is no call, and what form it should have.
-pub fn wrong(n: u64, form: usize) {
-    line(n, &FORMS, form);
-    text(b"\n");
+pub fn wrong(rt: &(impl Print + Eprint), n: u64, form: usize) {
+    line(rt, n, &FORMS, form);
+    text(rt, b"\n");
 }
 
 // Writes the call of line n that is refused or, at the end of the list, the finish; and the number of the refusal.
-fn refusal(n: u64, verb: usize, number: u32) {
-    line(n, &CALLS, verb);
-    io::print_decimal(STDERR_FILENO, number as u64);
+fn refusal(rt: &(impl Print + Eprint), n: u64, verb: usize, number: u32) {
+    line(rt, n, &CALLS, verb);
+    out::print_decimal(rt, Stream::Stderr, number as u64);
 }
 
 // Says that the call of line n is refused.
-pub fn refused(n: u64, verb: usize, number: u32) {
-    refusal(n, verb, number);
-    text(text_words::nth(&REFUSALS, number as usize, b'\n'));
-    text(b"\n");
+pub fn refused(rt: &(impl Print + Eprint), n: u64, verb: usize, number: u32) {
+    refusal(rt, n, verb, number);
+    text(rt, text_words::nth(&REFUSALS, number as usize, b'\n'));
+    text(rt, b"\n");
 }
 
 // Writes the path of the last open node: the names of the open nodes, a slash before each. A root without a name is a slash alone,
 // and adds nothing to the paths below it.
-fn path(lines: &[u8], v: Nodes) {
+fn path(rt: &(impl Print + Eprint), lines: &[u8], v: Nodes) {
     let begins = v.begins;
     let depth = text_words::least(v.depth, nodes::DEEPEST);
     let mut k = 0;
     while k < depth {
         let name = nodes::name(lines, begins[k]);
         if 0 < k || 0 < name.len() || depth == 1 {
-            text(b"/");
+            text(rt, b"/");
         }
-        text(name);
+        text(rt, name);
         k += 1;
     }
 }
 
 // Says that the property of line n is refused because its node has one of this name, and which of the lines before gave it.
-pub fn twice(n: u64, verb: usize, before: &[u8], name: &[u8]) {
+pub fn twice(rt: &(impl Print + Eprint), n: u64, verb: usize, before: &[u8], name: &[u8]) {
     let v = nodes::after(before, name);
     let given = v.given;
-    refusal(n, verb, TWICE);
-    text(b", ");
-    path(before, v);
-    text(b" already has ");
-    text(name);
-    text(b" (line ");
-    io::print_decimal(STDERR_FILENO, given);
-    text(b")\n");
+    refusal(rt, n, verb, TWICE);
+    text(rt, b", ");
+    path(rt, before, v);
+    text(rt, b" already has ");
+    text(rt, name);
+    text(rt, b" (line ");
+    out::print_decimal(rt, Stream::Stderr, given);
+    text(rt, b")\n");
 }

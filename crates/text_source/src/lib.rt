@@ -50,7 +50,7 @@ fn in_text(b: u8) -> bool {
 // A count of zeros, with one byte more.
 fn counted(zeros: usize, b: u8) -> usize {
     if b == 0 {
-        return std::num::wrapping_add_usize(zeros, 1);
+        return zeros.wrapping_add(1);
     }
     zeros
 }
@@ -68,7 +68,7 @@ fn is_text(value: &[u8]) -> bool {
         zeros = counted(zeros, last);
         i += 1;
     }
-    last == 0 && zeros <= std::num::wrapping_sub_usize(value.len(), zeros)
+    last == 0 && zeros <= value.len().wrapping_sub(zeros)
 }
 
 // How dtc prints a value that is not empty.
@@ -83,62 +83,62 @@ fn guessed(value: &[u8]) -> Shape {
 }
 
 // A byte after a backslash.
-fn escaped(o: Out, b: u8) -> Out {
-    out::byte(out::byte(o, b'\\'), b)
+fn escaped(rt: &(impl Print + Eprint), o: Out, b: u8) -> Out {
+    out::byte(rt, out::byte(rt, o, b'\\'), b)
 }
 
 // A byte as two hexadecimal digits after `\x`.
-fn escaped_hex(o: Out, b: u8) -> Out {
-    out::hex_byte(escaped(o, b'x'), b)
+fn escaped_hex(rt: &(impl Print + Eprint), o: Out, b: u8) -> Out {
+    out::hex_byte(rt, escaped(rt, o, b'x'), b)
 }
 
 // A byte 0 inside a string, before another byte. Before an octal digit it has three digits, because it would otherwise mean
 // another byte.
-fn zero(o: Out, next: u8) -> Out {
-    let short = escaped(o, b'0');
+fn zero(rt: &(impl Print + Eprint), o: Out, next: u8) -> Out {
+    let short = escaped(rt, o, b'0');
     if b'0' <= next && next <= b'7' {
-        return out::byte(out::byte(short, b'0'), b'0');
+        return out::byte(rt, out::byte(rt, short, b'0'), b'0');
     }
     short
 }
 
 // A byte of a string, before another byte. Of a value that is strings, no byte gets to the last line.
-fn character(o: Out, b: u8, next: u8) -> Out {
+fn character(rt: &(impl Print + Eprint), o: Out, b: u8, next: u8) -> Out {
     if b == 0 {
-        return zero(o, next);
+        return zero(rt, o, next);
     }
     let l = letter(b);
     if l != 0 {
-        return escaped(o, l);
+        return escaped(rt, o, l);
     }
     if printable(b) {
-        return out::byte(o, b);
+        return out::byte(rt, o, b);
     }
-    escaped_hex(o, b)
+    escaped_hex(rt, o, b)
 }
 
 // Strings, in quotes, without the last 0. The first test of the loop keeps the sum from wrapping.
-fn text(mut o: Out, value: &[u8]) -> Out {
-    o = out::byte(o, b'"');
+fn text(rt: &(impl Print + Eprint), mut o: Out, value: &[u8]) -> Out {
+    o = out::byte(rt, o, b'"');
     let mut i = 0;
     while i < value.len() && i + 1 < value.len() {
-        o = character(o, value[i], value[i + 1]);
+        o = character(rt, o, value[i], value[i + 1]);
         i += 1;
     }
-    out::byte(o, b'"')
+    out::byte(rt, o, b'"')
 }
 
 // A space, except before the first of several.
-fn spaced(o: Out, first: bool) -> Out {
+fn spaced(rt: &(impl Print + Eprint), o: Out, first: bool) -> Out {
     if first {
         return o;
     }
-    out::byte(o, b' ')
+    out::byte(rt, o, b' ')
 }
 
 // A number in hexadecimal after `0x`, of at least so many digits.
-pub fn number(o: Out, n: u64, width: usize) -> Out {
-    out::hex(out::byte(out::byte(o, b'0'), b'x'), n, width)
+pub fn number(rt: &(impl Print + Eprint), o: Out, n: u64, width: usize) -> Out {
+    out::hex(rt, out::byte(rt, out::byte(rt, o, b'0'), b'x'), n, width)
 }
 
 // A number of 4 bytes with one byte more at its end, and without the first.
@@ -147,80 +147,80 @@ fn joined(n: u64, b: u8) -> u64 {
 }
 
 // Numbers of 4 bytes, in angle brackets.
-fn cells(mut o: Out, value: &[u8]) -> Out {
-    o = out::byte(o, b'<');
+fn cells(rt: &(impl Print + Eprint), mut o: Out, value: &[u8]) -> Out {
+    o = out::byte(rt, o, b'<');
     let mut n: u64 = 0;
     let mut i: usize = 0;
     while i < value.len() {
         n = joined(n, value[i]);
         i += 1;
         if i % 4 == 0 {
-            o = number(spaced(o, i == 4), n, 2);
+            o = number(rt, spaced(rt, o, i == 4), n, 2);
         }
     }
-    out::byte(o, b'>')
+    out::byte(rt, o, b'>')
 }
 
 // Bytes, in square brackets.
-fn bytes(mut o: Out, value: &[u8]) -> Out {
-    o = out::byte(o, b'[');
+fn bytes(rt: &(impl Print + Eprint), mut o: Out, value: &[u8]) -> Out {
+    o = out::byte(rt, o, b'[');
     let mut i = 0;
     while i < value.len() {
-        o = out::hex_byte(spaced(o, i == 0), value[i]);
+        o = out::hex_byte(rt, spaced(rt, o, i == 0), value[i]);
         i += 1;
     }
-    out::byte(o, b']')
+    out::byte(rt, o, b']')
 }
 
 // A value that is not empty.
-fn shaped(o: Out, value: &[u8]) -> Out {
+fn shaped(rt: &(impl Print + Eprint), o: Out, value: &[u8]) -> Out {
     let s = guessed(value);
     match s {
-        Shape::Text => text(o, value),
-        Shape::Cells => cells(o, value),
-        Shape::Bytes => bytes(o, value),
+        Shape::Text => text(rt, o, value),
+        Shape::Cells => cells(rt, o, value),
+        Shape::Bytes => bytes(rt, o, value),
     }
 }
 
 // What follows the name of a property: nothing for an empty value.
-pub fn value(o: Out, value: &[u8]) -> Out {
+pub fn value(rt: &(impl Print + Eprint), o: Out, value: &[u8]) -> Out {
     if value.len() == 0 {
         return o;
     }
-    shaped(out::text(o, b" = "), value)
+    shaped(rt, out::text(rt, o, b" = "), value)
 }
 
 // A byte of a name.
-fn name_byte(o: Out, b: u8) -> Out {
+fn name_byte(rt: &(impl Print + Eprint), o: Out, b: u8) -> Out {
     if in_name(b) {
-        return out::byte(o, b);
+        return out::byte(rt, o, b);
     }
-    escaped_hex(o, b)
+    escaped_hex(rt, o, b)
 }
 
 // A name. A byte that no source allows there is escaped, so that a name cannot look like something else.
-pub fn name(mut o: Out, name: &[u8]) -> Out {
+pub fn name(rt: &(impl Print + Eprint), mut o: Out, name: &[u8]) -> Out {
     let mut i = 0;
     while i < name.len() {
-        o = name_byte(o, name[i]);
+        o = name_byte(rt, o, name[i]);
         i += 1;
     }
     o
 }
 
 // The name of a node; an empty one is `/`.
-pub fn node_name(o: Out, node: &[u8]) -> Out {
+pub fn node_name(rt: &(impl Print + Eprint), o: Out, node: &[u8]) -> Out {
     if node.len() == 0 {
-        return out::byte(o, b'/');
+        return out::byte(rt, o, b'/');
     }
-    name(o, node)
+    name(rt, o, node)
 }
 
 // Tabs in front of a line.
-pub fn indent(mut o: Out, depth: usize) -> Out {
+pub fn indent(rt: &(impl Print + Eprint), mut o: Out, depth: usize) -> Out {
     let mut left = depth;
     while 0 < left {
-        o = out::byte(o, b'\t');
+        o = out::byte(rt, o, b'\t');
         left -= 1;
     }
     o

@@ -1,8 +1,9 @@
 // Standard input, read whole.
-ghost use Rattle.std.specs.Prelude.{◌≡◌, length};
-ghost use Rattle.io.specs.Counts.{IsPrefixLen};
+ghost use Rattle.std.specs.Prelude.{◌≡◌, ◌≤◌, length};
 
-use libc::{STDERR_FILENO, STDIN_FILENO};
+use crate::out;
+use crate::out::Stream;
+use std::io::Read;
 
 // Room for a list of lines, and one byte more. The length is stated, so that a proof that lends the array does not count its
 // elements.
@@ -14,22 +15,43 @@ pub fn room() -> [u8; 1_048_576]
 
 // Reads standard input to its end, and returns how many bytes it has. If it cannot be read or fills the buffer, the message for
 // this is written, and the whole length is returned.
-pub fn read(buffer: &mut [u8], unreadable: &[u8], too_long: &[u8]) -> usize
-    ensures { IsPrefixLen result buffer.new }
+pub fn read<R: Print + Eprint + Input>(
+    rt: &R,
+    buffer: &mut [u8],
+    unreadable: &[u8],
+    too_long: &[u8],
+) -> usize
+    ensures { result ≤ length buffer.new }
 {
+    let mut reader = rt.reader();
     let mut n = 0;
     while n < buffer.len() {
-        let got = libc::read(STDIN_FILENO, &mut buffer[n..]);
-        if got < 0 {
-            io::write_all(STDERR_FILENO, unreadable);
-            return buffer.len();
+        match reader.read(&mut buffer[n..]) {
+            Ok(0) => return n,
+            Ok(more) => n += more,
+            Err(_) => {
+                out::write_all(rt, Stream::Stderr, unreadable);
+                return buffer.len();
+            }
         }
-        let more = io::count(got, &buffer[n..]);
-        if more == 0 {
-            return n;
-        }
-        n += more;
     }
-    io::write_all(STDERR_FILENO, too_long);
+    out::write_all(rt, Stream::Stderr, too_long);
+    n
+}
+
+// Reads standard input until a buffer is full, the input ends or cannot be read, and returns how many bytes were put into the front
+// of the buffer.
+pub fn read_full<R: Input>(rt: &R, buffer: &mut [u8]) -> usize
+    ensures { result ≤ length buffer.new }
+{
+    let mut reader = rt.reader();
+    let mut n = 0;
+    while n < buffer.len() {
+        match reader.read(&mut buffer[n..]) {
+            Ok(0) => return n,
+            Ok(more) => n += more,
+            Err(_) => return n,
+        }
+    }
     n
 }

@@ -2,18 +2,39 @@
 // written in blocks, and input that is read whole.
 #![tactic(auto)]
 
+mod digits;
 pub mod input;
 pub mod number;
 pub mod out;
+mod rooms;
 
-ghost use Rattle.std.specs.Prelude.{◌+◌, ◌≤◌, min, length};
+ghost use Rattle.std.specs.Prelude.{ℕ, ◌≡◌, ◌≢◌, ◌+◌, ◌<◌, ◌≤◌, min, length, slice_index};
+
+pub use digits::{decimal_digits, hex_digits};
+pub use rooms::{buffer, large_buffer};
+
+// The first place from one index up to another that has a byte, or else the second index.
+fn find(s: &[u8], from: usize, to: usize, byte: u8) -> usize
+    requires forwards { from ≤ to }
+    requires within { to ≤ length s.now }
+    ensures low { from ≤ result }
+    ensures high { result ≤ to }
+    ensures before { (k : ℕ) → from ≤ k → k < result → slice_index s.now k ≢ byte }
+    ensures found { result < to → slice_index s.now result ≡ byte }
+{
+    let mut at = from;
+    while at < to && s[at] != byte {
+        at += 1;
+    }
+    at
+}
 
 // Where the piece after the one at `from` begins, or the end; `by` is the byte between two.
 pub fn next(s: &[u8], from: usize, by: u8) -> usize
     requires { from ≤ length s.now }
     ensures { (result ≤ length s.now) × (min (from + 1) (length s.now) ≤ result) }
 {
-    let end = bytes::scan::find(s, from, s.len(), by);
+    let end = find(s, from, s.len(), by);
     if end < s.len() { end + 1 } else { end }
 }
 
@@ -21,7 +42,7 @@ pub fn next(s: &[u8], from: usize, by: u8) -> usize
 pub fn piece(s: &[u8], from: usize, by: u8) -> &[u8]
     requires { from ≤ length s.now }
 {
-    let to = bytes::scan::find(s, from, s.len(), by);
+    let to = find(s, from, s.len(), by);
     &s[from..to]
 }
 
@@ -53,7 +74,7 @@ pub fn place(list: &[u8], most: usize, wanted: &[u8]) -> usize {
     let mut at = 0;
     let mut k = 0;
     while k < most {
-        if check::same(piece(list, at, b' '), wanted) {
+        if piece(list, at, b' ') == wanted {
             return k;
         }
         at = next(list, at, b' ');

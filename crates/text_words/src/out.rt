@@ -1,18 +1,48 @@
-// Text that is written in blocks, to standard output or another descriptor.
+// Text that is written in blocks, to standard output or standard error.
 
-// A descriptor, what is still to be written to it, how much that is, and whether everything before it was written.
+// Where text is written.
+#[derive(Clone, Copy)]
+pub enum Stream {
+    Stdout,
+    Stderr,
+}
+
+// A stream, what is still to be written to it, how much that is, and whether everything before it was written.
 #[derive(Clone, Copy)]
 pub struct Out {
-    fd: i32,
+    stream: Stream,
     text: [u8; 512],
     used: usize,
     pub whole: bool,
 }
 
+// Writes bytes to standard error, which takes text: bytes that are no UTF-8 are not written.
+fn write_text<R: Eprint>(rt: &R, bytes: &[u8]) -> bool {
+    match str::from_utf8(bytes) {
+        Ok(text) => rt.eprint(text).is_ok(),
+        Err(_) => false,
+    }
+}
+
+// Writes bytes at once, and returns whether all were written.
+pub fn write_all<R: Print + Eprint>(rt: &R, stream: Stream, bytes: &[u8]) -> bool {
+    match stream {
+        Stream::Stdout => rt.write_all(bytes).is_ok(),
+        Stream::Stderr => write_text(rt, bytes),
+    }
+}
+
+// Writes a number in decimal at once, and returns whether all of it was written.
+pub fn print_decimal<R: Print + Eprint>(rt: &R, stream: Stream, n: u64) -> bool {
+    let mut digits = [0; 20];
+    let k = crate::decimal_digits(n, &mut digits);
+    write_all(rt, stream, &digits[..k])
+}
+
 // Nothing yet.
-pub fn to(fd: i32) -> Out {
+pub fn to(stream: Stream) -> Out {
     Out {
-        fd,
+        stream,
         text: [0; 512],
         used: 0,
         whole: true,
@@ -20,51 +50,51 @@ pub fn to(fd: i32) -> Out {
 }
 
 // Writes what there is, and returns whether all was written so far.
-pub fn flush(o: Out) -> bool {
+pub fn flush<R: Print + Eprint>(rt: &R, o: Out) -> bool {
     let text = o.text;
-    let written = io::write_all(o.fd, crate::part(&text, 0, o.used));
+    let written = write_all(rt, o.stream, crate::part(&text, 0, o.used));
     o.whole && written
 }
 
 // One byte more; a full text is written first.
-pub fn byte(mut o: Out, b: u8) -> Out {
+pub fn byte<R: Print + Eprint>(rt: &R, mut o: Out, b: u8) -> Out {
     let used = o.used;
     if used < 512 {
         o.text[used] = b;
         o.used = used + 1;
         return o;
     }
-    o.whole = flush(o);
+    o.whole = flush(rt, o);
     o.text[0] = b;
     o.used = 1;
     o
 }
 
 // Bytes as they are.
-pub fn text(mut o: Out, s: &[u8]) -> Out {
+pub fn text<R: Print + Eprint>(rt: &R, mut o: Out, s: &[u8]) -> Out {
     let mut i = 0;
     while i < s.len() {
-        o = byte(o, s[i]);
+        o = byte(rt, o, s[i]);
         i += 1;
     }
     o
 }
 
 // A number in decimal.
-pub fn decimal(o: Out, n: u64) -> Out {
+pub fn decimal<R: Print + Eprint>(rt: &R, o: Out, n: u64) -> Out {
     let mut digits = [0; 20];
-    let k = io::decimal(n, &mut digits);
-    text(o, &digits[..k])
+    let k = crate::decimal_digits(n, &mut digits);
+    text(rt, o, &digits[..k])
 }
 
 // A number in hexadecimal, of at least so many digits.
-pub fn hex(o: Out, n: u64, width: usize) -> Out {
+pub fn hex<R: Print + Eprint>(rt: &R, o: Out, n: u64, width: usize) -> Out {
     let mut digits = [0; 16];
-    let k = io::hex(n, width, &mut digits);
-    text(o, &digits[..k])
+    let k = crate::hex_digits(n, width, &mut digits);
+    text(rt, o, &digits[..k])
 }
 
 // A byte in two hexadecimal digits.
-pub fn hex_byte(o: Out, b: u8) -> Out {
-    hex(o, b as u64, 2)
+pub fn hex_byte<R: Print + Eprint>(rt: &R, o: Out, b: u8) -> Out {
+    hex(rt, o, b as u64, 2)
 }

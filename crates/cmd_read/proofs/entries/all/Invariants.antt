@@ -1,0 +1,6 @@
+-- `entries::all` ends: each turn leaves one entry less.
+use Rattle.std.proofs.Common.{◌-◌}
+use Rattle.cmd_read.proofs.entries.all.Given as goal
+
+abbrev pub decreases-loop-n : goal.decreases-loop-n
+decreases-loop-n g l = l.entries - l.n
