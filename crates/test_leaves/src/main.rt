@@ -6,8 +6,8 @@ mod cases;
 mod strings;
 mod tests;
 
-fn main() {
-    let mut input = io::large_buffer();
-    let n = io::read_full(libc::STDIN_FILENO, &mut input);
-    cases::each(&input[..n]);
+fn main(rt: HostRuntime) {
+    let mut input = text_words::large_buffer();
+    let n = text_words::input::read_full(&rt, &mut input);
+    cases::each(&rt, &input[..n]);
 }

@@ -27,15 +27,21 @@ fn put(line: &[u8], blob: &mut [u8]) {
 }
 
 // Writes the numbers of the list that a line asks for.
-fn show(line: &[u8], list: &[u32], lent: usize) {
+fn show<R: Print + Eprint>(rt: &R, line: &[u8], list: &[u32], lent: usize) {
     let from = numbers::number(line, 1) as usize;
     let to = numbers::number(line, 2) as usize;
-    said::cells(list, from, text_words::least(to, lent), false);
-    said::text(b"\n");
+    said::cells(rt, list, from, text_words::least(to, lent), false);
+    said::text(rt, b"\n");
 }
 
 // Runs a line.
-fn run(line: &[u8], before: Lent, blob: &mut [u8], list: &mut [u32]) -> Lent {
+fn run<R: Print + Eprint>(
+    rt: &R,
+    line: &[u8],
+    before: Lent,
+    blob: &mut [u8],
+    list: &mut [u32],
+) -> Lent {
     let mut lent = before;
     let verb = text_words::place(b"put lend read list", 4, text_words::word(line, 0));
     match verb {
@@ -43,26 +49,26 @@ fn run(line: &[u8], before: Lent, blob: &mut [u8], list: &mut [u32]) -> Lent {
         LEND => lent.bytes = numbers::number(line, 1) as usize,
         READ => {
             lent.numbers = numbers::number(line, 1) as usize;
-            reads::run(blob, lent.bytes, list, lent.numbers);
+            reads::run(rt, blob, lent.bytes, list, lent.numbers);
         }
-        LIST => show(line, list, lent.numbers),
+        LIST => show(rt, line, list, lent.numbers),
         _ => {
-            said::text(line);
-            said::text(b"\n");
+            said::text(rt, line);
+            said::text(rt, b"\n");
         }
     }
     lent
 }
 
 // Runs each line of a list.
-pub fn each(lines: &[u8], blob: &mut [u8], list: &mut [u32]) {
+pub fn each<R: Print + Eprint>(rt: &R, lines: &[u8], blob: &mut [u8], list: &mut [u32]) {
     let mut lent = Lent {
         bytes: 0,
         numbers: 0,
     };
     let mut at = 0;
     while at < lines.len() {
-        lent = run(text_words::piece(lines, at, b'\n'), lent, blob, list);
+        lent = run(rt, text_words::piece(lines, at, b'\n'), lent, blob, list);
         at = text_words::next(lines, at, b'\n');
     }
 }

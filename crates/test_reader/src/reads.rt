@@ -14,12 +14,13 @@ fn fill(list: &mut [u32]) {
 }
 
 // Reads a blob into a list, and writes the answer, the place of the first fault, and the list's check value.
-fn report(blob: &[u8], list: &mut [u32]) {
+fn report<R: Print + Eprint>(rt: &R, blob: &[u8], list: &mut [u32]) {
     fill(list);
     let answer = fdt_reader::read(blob, list);
     let v = fdt_reader::values_of(answer);
     let place = fdt_reader::fault_place(fdt_reader::survey(blob));
     said::numbers(
+        rt,
         &[
             fdt_reader::number(answer) as u64,
             v.boot as u64,
@@ -30,12 +31,12 @@ fn report(blob: &[u8], list: &mut [u32]) {
         ],
         false,
     );
-    said::text(b"\n");
+    said::text(rt, b"\n");
 }
 
 // The same with so many bytes and so many numbers, as far as there are any.
-pub fn run(blob: &[u8], lent: usize, list: &mut [u32], room: usize) {
+pub fn run<R: Print + Eprint>(rt: &R, blob: &[u8], lent: usize, list: &mut [u32], room: usize) {
     let from = 0;
     let to = text_words::least(room, list.len());
-    report(text_words::part(blob, 0, lent), &mut list[from..to]);
+    report(rt, text_words::part(blob, 0, lent), &mut list[from..to]);
 }

@@ -45,7 +45,7 @@ pub fn set_boot_cpuid_phys(d: Desk, n: u32) -> Desk {
 
 // Begins a node.
 pub fn begin_node(mut d: Desk, line: &[u8]) -> Desk {
-    let mut name = io::buffer();
+    let mut name = text_words::buffer();
     let n = spelling::word(line, 1, &mut name);
     let mut blob = d.blob;
     let b = within(d.blob_lent, &blob);

@@ -1,5 +1,6 @@
 // What is kept from line to line. It is passed by value: a lent buffer costs more to prove in each function than a copy.
-ghost use Rattle.io.specs.Counts.{IsPrefixLen};
+ghost use Rattle.std.specs.Prelude.{◌≤◌, length};
+ghost use Rattle.std.specs.Counts.{IsPrefixLen};
 
 use crate::room;
 use fdt_writer::{Answered, FdtWriter};

@@ -54,11 +54,11 @@ pub fn set(r: Record, line: &[u8]) -> Record {
 }
 
 // Writes the names of the fields, or each with its number; with `led`, a space comes first.
-pub fn look(r: Record, verb: usize, led: bool) {
+pub fn look<R: Print + Eprint>(rt: &R, r: Record, verb: usize, led: bool) {
     if verb == verbs::FIELDS {
-        said::gap(led);
-        said::text(&NAMES);
+        said::gap(rt, led);
+        said::text(rt, &NAMES);
     } else {
-        said::named(&NAMES, &apart(r), led);
+        said::named(rt, &NAMES, &apart(r), led);
     }
 }

@@ -19,21 +19,21 @@ fn after(d: Desk, verb: usize, line: &[u8]) -> Desk {
 }
 
 // Runs a line and writes its output; `aloud` and `quiet` have none.
-fn run(d: Desk, line: &[u8]) -> Desk {
+fn run<R: Print + Eprint>(rt: &R, d: Desk, line: &[u8]) -> Desk {
     let verb = verbs::asked(line);
     let next = after(d, verb, line);
     if verb < verbs::ALOUD || verb == verbs::REMARK {
-        told::line(next, verb, line);
+        told::line(rt, next, verb, line);
     }
     next
 }
 
 // Runs each line of a list.
-pub fn each(lines: &[u8]) {
+pub fn each<R: Print + Eprint>(rt: &R, lines: &[u8]) {
     let mut d = desk::closed();
     let mut at = 0;
     while at < lines.len() {
-        d = run(d, text_words::piece(lines, at, b'\n'));
+        d = run(rt, d, text_words::piece(lines, at, b'\n'));
         at = text_words::next(lines, at, b'\n');
     }
 }

@@ -131,7 +131,7 @@ fn wide_list(mut d: Desk, name: &[u8], line: &[u8]) -> Desk {
 
 // A property of bytes or strings.
 fn spelled(d: Desk, verb: usize, name: &[u8], line: &[u8]) -> Desk {
-    let mut space = io::large_buffer();
+    let mut space = text_words::large_buffer();
     let k = spelling::word(line, 2, &mut space);
     let val = &space[..k];
     match verb {
@@ -143,7 +143,7 @@ fn spelled(d: Desk, verb: usize, name: &[u8], line: &[u8]) -> Desk {
 
 // Writes the property that a line asks for.
 pub fn run(d: Desk, verb: usize, line: &[u8]) -> Desk {
-    let mut space = io::buffer();
+    let mut space = text_words::buffer();
     let k = spelling::word(line, 1, &mut space);
     let name = &space[..k];
     match verb {

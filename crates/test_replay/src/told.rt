@@ -16,45 +16,45 @@ fn checks(d: Desk) -> [u64; 3] {
 }
 
 // A report: what a call answered, the record's fields, and the check values of what it was lent.
-fn report(d: Desk) {
-    said::numbers(&[d.number as u64, d.handle as u64], false);
-    said::numbers(&fields::apart(d.writer.0), true);
-    said::numbers(&checks(d), true);
+fn report<R: Print + Eprint>(rt: &R, d: Desk) {
+    said::numbers(rt, &[d.number as u64, d.handle as u64], false);
+    said::numbers(rt, &fields::apart(d.writer.0), true);
+    said::numbers(rt, &checks(d), true);
 }
 
 // What a call answered, and the handle if it begins a node.
-fn answer(verb: usize, number: u64, handle: u64) {
-    said::gap(true);
-    said::number(number);
+fn answer<R: Print + Eprint>(rt: &R, verb: usize, number: u64, handle: u64) {
+    said::gap(rt, true);
+    said::number(rt, number);
     if verb == verbs::BEGIN_NODE {
-        said::text(b" handle ");
-        said::number(handle);
+        said::text(rt, b" handle ");
+        said::number(rt, handle);
     }
 }
 
 // Writes a line again, in the mode `aloud`.
-fn again(aloud: bool, verb: usize, line: &[u8]) {
+fn again<R: Print + Eprint>(rt: &R, aloud: bool, verb: usize, line: &[u8]) {
     if aloud {
-        said::text(line);
+        said::text(rt, line);
         if verb < verbs::BUFFERS {
-            said::text(b":");
+            said::text(rt, b":");
         }
     }
 }
 
 // Writes the output for a line that was run.
-pub fn line(d: Desk, verb: usize, line: &[u8]) {
-    again(d.aloud, verb, line);
+pub fn line<R: Print + Eprint>(rt: &R, d: Desk, verb: usize, line: &[u8]) {
+    again(rt, d.aloud, verb, line);
     if verbs::SHOW <= verb {
         if verb < verbs::BUFFERS {
-            looks::run(d, verb, line);
+            looks::run(rt, d, verb, line);
         }
     } else if d.aloud {
-        answer(verb, d.number as u64, d.handle as u64);
+        answer(rt, verb, d.number as u64, d.handle as u64);
     } else {
-        report(d);
+        report(rt, d);
     }
     if d.aloud || verb < verbs::BUFFERS {
-        said::text(b"\n");
+        said::text(rt, b"\n");
     }
 }

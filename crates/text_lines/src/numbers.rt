@@ -1,6 +1,6 @@
 // The numbers of a line. A word that is no number of at most 64 bits counts as 0.
-ghost use Rattle.std.specs.Prelude.{◌≤◌};
-ghost use Rattle.io.specs.Counts.{IsPrefixLen};
+ghost use Rattle.std.specs.Prelude.{◌≤◌, length};
+ghost use Rattle.std.specs.Counts.{IsPrefixLen};
 
 use text_words::number;
 

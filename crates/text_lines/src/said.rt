@@ -1,7 +1,6 @@
 // Parts of a line, written to standard output.
-use libc::STDOUT_FILENO;
 use text_words::out;
-use text_words::out::Out;
+use text_words::out::{Out, Stream};
 
 // How bytes are written: as a word spells them or in two digits each, with one space before all of them; or in two digits
 // each, with a space before every fourth or before each.
@@ -14,39 +13,39 @@ pub enum Style {
 }
 
 // Writes bytes as they are.
-pub fn text(s: &[u8]) {
-    io::write_all(STDOUT_FILENO, s);
+pub fn text<R: Print + Eprint>(rt: &R, s: &[u8]) {
+    out::write_all(rt, Stream::Stdout, s);
 }
 
 // A space, or nothing.
-pub fn gap(is: bool) {
+pub fn gap<R: Print + Eprint>(rt: &R, is: bool) {
     if is {
-        text(b" ");
+        text(rt, b" ");
     }
 }
 
 // A number in decimal.
-pub fn number(n: u64) {
-    io::print_decimal(STDOUT_FILENO, n);
+pub fn number<R: Print + Eprint>(rt: &R, n: u64) {
+    out::print_decimal(rt, Stream::Stdout, n);
 }
 
 // A space, or nothing.
-fn put_gap(o: Out, is: bool) -> Out {
-    if is { out::byte(o, b' ') } else { o }
+fn put_gap<R: Print + Eprint>(rt: &R, o: Out, is: bool) -> Out {
+    if is { out::byte(rt, o, b' ') } else { o }
 }
 
 // A byte in a style.
-fn put_byte(o: Out, b: u8, letters: bool) -> Out {
+fn put_byte<R: Print + Eprint>(rt: &R, o: Out, b: u8, letters: bool) -> Out {
     if !letters {
-        return out::hex_byte(o, b);
+        return out::hex_byte(rt, o, b);
     }
     if b == 0 {
-        return out::byte(o, b'~');
+        return out::byte(rt, o, b'~');
     }
     if 32 < b && b < 127 && b != b'\\' && b != b'~' {
-        return out::byte(o, b);
+        return out::byte(rt, o, b);
     }
-    out::hex_byte(out::text(o, b"\\x"), b)
+    out::hex_byte(rt, out::text(rt, o, b"\\x"), b)
 }
 
 // Whether byte i begins a group.
@@ -67,26 +66,26 @@ fn letters(style: Style) -> bool {
 }
 
 // Writes bytes in a style; without `led`, no space comes first.
-pub fn bytes(s: &[u8], style: Style, led: bool) {
-    let mut o = out::to(STDOUT_FILENO);
+pub fn bytes<R: Print + Eprint>(rt: &R, s: &[u8], style: Style, led: bool) {
+    let mut o = out::to(Stream::Stdout);
     let mut i = 0;
     while i < s.len() {
-        o = put_gap(o, begins(style, i) && (led || 0 < i));
-        o = put_byte(o, s[i], letters(style));
+        o = put_gap(rt, o, begins(style, i) && (led || 0 < i));
+        o = put_byte(rt, o, s[i], letters(style));
         i += 1;
     }
-    out::flush(o);
+    out::flush(rt, o);
 }
 
 // Writes numbers with a space between two; with `led`, a space comes first.
-pub fn numbers(list: &[u64], led: bool) {
-    let mut o = out::to(STDOUT_FILENO);
+pub fn numbers<R: Print + Eprint>(rt: &R, list: &[u64], led: bool) {
+    let mut o = out::to(Stream::Stdout);
     let mut i = 0;
     while i < list.len() {
-        o = out::decimal(put_gap(o, led || 0 < i), list[i]);
+        o = out::decimal(rt, put_gap(rt, o, led || 0 < i), list[i]);
         i += 1;
     }
-    out::flush(o);
+    out::flush(rt, o);
 }
 
 // A number of a table.
@@ -95,24 +94,24 @@ fn wide(n: u32) -> u64 {
 }
 
 // The same for a table's numbers from one index up to another, as far as the table reaches.
-pub fn cells(t: &[u32], from: usize, to: usize, led: bool) {
-    let mut o = out::to(STDOUT_FILENO);
+pub fn cells<R: Print + Eprint>(rt: &R, t: &[u32], from: usize, to: usize, led: bool) {
+    let mut o = out::to(Stream::Stdout);
     let mut i = from;
     while i < t.len() && i < to {
-        o = out::decimal(put_gap(o, led || from < i), wide(t[i]));
+        o = out::decimal(rt, put_gap(rt, o, led || from < i), wide(t[i]));
         i += 1;
     }
-    out::flush(o);
+    out::flush(rt, o);
 }
 
 // Writes words, each with a number of a list; with `led`, a space comes first.
-pub fn named(names: &[u8], list: &[u64], led: bool) {
+pub fn named<R: Print + Eprint>(rt: &R, names: &[u8], list: &[u64], led: bool) {
     let mut k = 0;
     while k < list.len() {
-        gap(led || 0 < k);
-        text(text_words::word(names, k));
-        gap(true);
-        number(list[k]);
+        gap(rt, led || 0 < k);
+        text(rt, text_words::word(names, k));
+        gap(rt, true);
+        number(rt, list[k]);
         k += 1;
     }
 }

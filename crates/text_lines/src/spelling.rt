@@ -1,5 +1,6 @@
 // Bytes as a word spells them: a readable byte stands for itself, `~` for a byte 0, and `\xHH` for any byte.
-ghost use Rattle.io.specs.Counts.{IsPrefixLen};
+ghost use Rattle.std.specs.Prelude.{◌≤◌, length};
+ghost use Rattle.std.specs.Counts.{IsPrefixLen};
 
 use text_words::number;
 

@@ -1,5 +1,6 @@
 // Standard input, read whole.
 ghost use Rattle.std.specs.Prelude.{◌≡◌, ◌≤◌, length};
+ghost use Rattle.std.specs.Counts.{IsPrefixLen};
 
 use crate::out;
 use crate::out::Stream;
@@ -21,7 +22,7 @@ pub fn read<R: Print + Eprint + Input>(
     unreadable: &[u8],
     too_long: &[u8],
 ) -> usize
-    ensures { result ≤ length buffer.new }
+    ensures { IsPrefixLen result buffer.new }
 {
     let mut reader = rt.reader();
     let mut n = 0;
@@ -42,7 +43,7 @@ pub fn read<R: Print + Eprint + Input>(
 // Reads standard input until a buffer is full, the input ends or cannot be read, and returns how many bytes were put into the front
 // of the buffer.
 pub fn read_full<R: Input>(rt: &R, buffer: &mut [u8]) -> usize
-    ensures { result ≤ length buffer.new }
+    ensures { IsPrefixLen result buffer.new }
 {
     let mut reader = rt.reader();
     let mut n = 0;
