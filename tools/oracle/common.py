@@ -13,8 +13,6 @@ import time
 
 TOP = os.path.dirname(os.path.dirname(os.path.dirname(os.path.abspath(__file__))))
 ORACLE = os.path.join(TOP, "tools", "oracle")
-BIN = os.path.join(TOP, "target", "bin")
-PROGRAM = os.path.join(BIN, "test_replay")
 # The lines that begin the sample in the program's own stdin; tools/oracle/sample writes it.
 SAMPLE = b"quiet\n# The sample that tools/oracle/sample wrote, by: "
 # Seconds after which a program is stopped.
@@ -48,22 +46,30 @@ def kit():
     return os.environ.get("RATTLE_HOME") or (rt and os.path.dirname(os.path.dirname(os.path.realpath(rt))))
 
 
+def place(name):
+    """Where `rt ci` and `rt run` put a built program, from the top of the repository."""
+    return os.path.join("crates", name, "out", name)
+
+
+def program_of(name):
+    """The file of a built program."""
+    return os.path.join(TOP, place(name))
+
+
 def must_be_there(path, name):
     """Trouble if a program is not a file that can be run."""
     if not os.path.isfile(path) or not os.access(path, os.X_OK):
-        raise Trouble(3, f"{path} is not there (rt check {name} makes it)")
+        raise Trouble(3, f"{path} is not there (rt ci makes it, and so does rt run in crates/{name})")
 
 
 def runner(program):
-    """How a program is run: with the kit's C library where the kit is there, and emulated where the machine is another."""
-    tools = os.path.join(kit() or "", "on", os.uname().machine, "toolchain")
+    """How a program is run: with the kit's C library, where the kit is there."""
+    tools = os.path.join(kit() or "", "toolchain")
     loader = os.path.join(tools, "lib", "ld-linux-x86-64.so.2")
     with open(program, "rb") as f:
         if f.read(4) != b"\x7fELF" or not os.path.exists(loader):
             return [program]
-    emulator = os.path.join(tools, "bin", "qemu-x86_64")
-    first = [emulator] if os.path.exists(emulator) else []
-    return first + [loader, "--library-path", os.path.join(tools, "lib"), program]
+    return [loader, "--library-path", os.path.join(tools, "lib"), program]
 
 
 def built(folder, judge="oracle", what="the judge"):
@@ -151,7 +157,7 @@ class Kind:
     def options(self, words, text, status):
         """What a command line asks for."""
         parser = self.parser(text, status)
-        parser.add_argument("--program", default=os.path.join(BIN, self.program), metavar="FILE", help=f"the program to compare (default: target/bin/{self.program})")
+        parser.add_argument("--program", default=program_of(self.program), metavar="FILE", help=f"the program to compare (default: {place(self.program)})")
         return parser.parse_args(words)
 
     def main(self, o, beside, compared, verdict):
