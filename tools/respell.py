@@ -6,7 +6,7 @@ usage: respell.py [FOLDER]
 It runs once, at the top of the repository or in FOLDER, on crates that the kit's port.py has turned.
 A name in camel case gets underscores, as bigEndian becomes big_endian. A dash becomes an underscore, but a lemma
 of proofs/ keeps one that joins two names, as length-zeros. Types and modules keep their names, and so does the source.
-It rewrites specs/, the lemmas of proofs/, the clauses of src/, the names in docs/ and README.md, and the must-fail edits.
+It rewrites specs/, the lemmas of proofs/, the clauses of src/, and names in camel case in the must-fail edits.
 The file names.tsv beside this script gets a row for each name that changed: old, a tab, new.
 A line 'meets:' names two names that would be one: the second gets the ending _lem.
 """

@@ -192,7 +192,7 @@ fn cause_of(blob: &[u8], refusal: Refusal, place: usize) -> Cause {
 }
 
 // A byte of a row, or what it stands for.
-fn put(rt: &(impl Print + Eprint), o: Out, b: u8, n: u64, length: u64) -> Out {
+fn put(rt: &HostRuntime, o: Out, b: u8, n: u64, length: u64) -> Out {
     match b {
         b'#' => out::decimal(rt, o, n),
         b'$' => out::hex(rt, o, n, 8),
@@ -202,7 +202,7 @@ fn put(rt: &(impl Print + Eprint), o: Out, b: u8, n: u64, length: u64) -> Out {
 }
 
 // A row with its numbers.
-fn row(rt: &(impl Print + Eprint), mut o: Out, text: &[u8], n: u64, length: u64) -> Out {
+fn row(rt: &HostRuntime, mut o: Out, text: &[u8], n: u64, length: u64) -> Out {
     let mut i = 0;
     while i < text.len() {
         o = put(rt, o, text[i], n, length);
@@ -212,7 +212,7 @@ fn row(rt: &(impl Print + Eprint), mut o: Out, text: &[u8], n: u64, length: u64)
 }
 
 // The sentence of a cause.
-fn sentence(rt: &(impl Print + Eprint), o: Out, c: Cause, length: u64) -> Out {
+fn sentence(rt: &HostRuntime, o: Out, c: Cause, length: u64) -> Out {
     row(
         rt,
         o,
@@ -223,14 +223,14 @@ fn sentence(rt: &(impl Print + Eprint), o: Out, c: Cause, length: u64) -> Out {
 }
 
 // The number of a refusal and its place.
-fn heading(rt: &(impl Print + Eprint), number: u64, place: u64) -> Out {
+fn heading(rt: &HostRuntime, number: u64, place: u64) -> Out {
     let o = out::text(rt, out::to(Stream::Stderr), b"refused ");
     let o = out::text(rt, out::decimal(rt, o, number), b" at ");
     out::byte(rt, out::byte(rt, out::decimal(rt, o, place), b':'), b' ')
 }
 
 // Says why a blob is refused, and where.
-pub fn refused(rt: &(impl Print + Eprint), blob: &[u8], fault: Fault) {
+pub fn refused(rt: &HostRuntime, blob: &[u8], fault: Fault) {
     let refusal = fault.refusal;
     let number = fdt_walk::number(refusal);
     let place = fault.place;

@@ -5,12 +5,12 @@ use text_words::out;
 use text_words::out::{Out, Stream};
 
 // A number, and the byte after it.
-fn number(rt: &(impl Print + Eprint), o: Out, n: u64, after: u8) -> Out {
+fn number(rt: &HostRuntime, o: Out, n: u64, after: u8) -> Out {
     out::byte(rt, out::decimal(rt, o, n), after)
 }
 
 // The number of the answer, the boot number, and how many reservations and entries there are.
-fn first(rt: &(impl Print + Eprint), answer: ReadAnswer) -> Out {
+fn first(rt: &HostRuntime, answer: ReadAnswer) -> Out {
     let v = fdt_reader::values_of(answer);
     let o = out::to(Stream::Stdout);
     let o = number(rt, o, fdt_reader::number(answer) as u64, b' ');
@@ -39,7 +39,7 @@ pub fn entry(list: &[u32], n: usize) -> Entry {
 }
 
 // The line of an entry.
-fn line(rt: &(impl Print + Eprint), o: Out, t: Entry) -> Out {
+fn line(rt: &HostRuntime, o: Out, t: Entry) -> Out {
     let o = number(rt, o, t.token as u64, b' ');
     let o = number(rt, o, t.place as u64, b' ');
     let o = number(rt, o, t.name as u64, b' ');
@@ -47,7 +47,7 @@ fn line(rt: &(impl Print + Eprint), o: Out, t: Entry) -> Out {
 }
 
 // The first line, and a line of four numbers for each entry.
-pub fn all(rt: &(impl Print + Eprint), list: &[u32], answer: ReadAnswer) -> Out {
+pub fn all(rt: &HostRuntime, list: &[u32], answer: ReadAnswer) -> Out {
     let mut o = first(rt, answer);
     let v = fdt_reader::values_of(answer);
     let entries = v.entries;

@@ -25,14 +25,14 @@ fn entries_asked(rt: &impl Env) -> bool {
 }
 
 // Writes what is left of the output, and says so if it cannot be written.
-fn told(rt: &(impl Print + Eprint), o: Out) {
+fn told(rt: &HostRuntime, o: Out) {
     if !out::flush(rt, o) {
         out::write_all(rt, Stream::Stderr, b"the output cannot be written\n");
     }
 }
 
 // Writes the tree of a blob, or the reader's entries.
-fn shown(rt: &(impl Print + Eprint), blob: &[u8], seen: Surveyed, list: &[u32], as_entries: bool) {
+fn shown(rt: &HostRuntime, blob: &[u8], seen: Surveyed, list: &[u32], as_entries: bool) {
     match seen {
         Surveyed::Refused(fault) => cause::refused(rt, blob, fault),
         Surveyed::Readable(a, reservations, entries) => {
@@ -44,7 +44,7 @@ fn shown(rt: &(impl Print + Eprint), blob: &[u8], seen: Surveyed, list: &[u32], 
 }
 
 // Writes what a blob holds.
-fn read(rt: &(impl Print + Eprint), blob: &[u8], as_entries: bool) {
+fn read(rt: &HostRuntime, blob: &[u8], as_entries: bool) {
     let mut list = room::numbers();
     let answer = fdt_reader::read(blob, &mut list);
     if as_entries {

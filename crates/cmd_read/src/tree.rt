@@ -11,7 +11,7 @@ fn name_at(blob: &[u8], at: u32) -> &[u8] {
 }
 
 // The end of a line, after a byte.
-fn ended(rt: &(impl Print + Eprint), o: Out, b: u8) -> Out {
+fn ended(rt: &HostRuntime, o: Out, b: u8) -> Out {
     out::byte(rt, out::byte(rt, o, b), b'\n')
 }
 
@@ -27,7 +27,7 @@ fn wide(blob: &[u8], at: usize) -> u64 {
 }
 
 // The line of a reservation.
-fn reservation(rt: &(impl Print + Eprint), o: Out, address: u64, size: u64) -> Out {
+fn reservation(rt: &HostRuntime, o: Out, address: u64, size: u64) -> Out {
     let o = text_source::number(rt, out::text(rt, o, b"/memreserve/\t"), address, 16);
     ended(
         rt,
@@ -37,7 +37,7 @@ fn reservation(rt: &(impl Print + Eprint), o: Out, address: u64, size: u64) -> O
 }
 
 // The lines before the reservations, with the boot number.
-fn first(rt: &(impl Print + Eprint), boot: u32) -> Out {
+fn first(rt: &HostRuntime, boot: u32) -> Out {
     let o = out::text(
         rt,
         out::to(Stream::Stdout),
@@ -47,7 +47,7 @@ fn first(rt: &(impl Print + Eprint), boot: u32) -> Out {
 }
 
 // The lines before the first node.
-fn front(rt: &(impl Print + Eprint), blob: &[u8], a: Areas, reservations: usize) -> Out {
+fn front(rt: &HostRuntime, blob: &[u8], a: Areas, reservations: usize) -> Out {
     let mut o = first(rt, a.boot);
     let mut at = a.reservations;
     let mut left = reservations;
@@ -61,7 +61,7 @@ fn front(rt: &(impl Print + Eprint), blob: &[u8], a: Areas, reservations: usize)
 }
 
 // An empty line, except before the first node.
-fn apart(rt: &(impl Print + Eprint), o: Out, first: bool) -> Out {
+fn apart(rt: &HostRuntime, o: Out, first: bool) -> Out {
     if first {
         return o;
     }
@@ -69,7 +69,7 @@ fn apart(rt: &(impl Print + Eprint), o: Out, first: bool) -> Out {
 }
 
 // The line that begins a node.
-fn begin(rt: &(impl Print + Eprint), o: Out, name: &[u8], depth: usize, first: bool) -> Out {
+fn begin(rt: &HostRuntime, o: Out, name: &[u8], depth: usize, first: bool) -> Out {
     let o = text_source::indent(rt, apart(rt, o, first), depth);
     ended(
         rt,
@@ -85,13 +85,13 @@ fn value_of(blob: &[u8], t: Entry) -> &[u8] {
 }
 
 // The line of a property.
-fn property(rt: &(impl Print + Eprint), o: Out, blob: &[u8], t: Entry, depth: usize) -> Out {
+fn property(rt: &HostRuntime, o: Out, blob: &[u8], t: Entry, depth: usize) -> Out {
     let o = text_source::name(rt, text_source::indent(rt, o, depth), name_at(blob, t.name));
     ended(rt, text_source::value(rt, o, value_of(blob, t)), b';')
 }
 
 // The line that ends a node.
-fn end(rt: &(impl Print + Eprint), o: Out, depth: usize) -> Out {
+fn end(rt: &HostRuntime, o: Out, depth: usize) -> Out {
     ended(
         rt,
         out::byte(rt, text_source::indent(rt, o, depth), b'}'),
@@ -109,14 +109,7 @@ fn deeper(depth: usize, token: u32) -> usize {
 }
 
 // The line of an entry.
-fn line(
-    rt: &(impl Print + Eprint),
-    o: Out,
-    blob: &[u8],
-    t: Entry,
-    depth: usize,
-    first: bool,
-) -> Out {
+fn line(rt: &HostRuntime, o: Out, blob: &[u8], t: Entry, depth: usize, first: bool) -> Out {
     let token = t.token;
     match token {
         FDT_BEGIN_NODE => begin(rt, o, name_at(blob, t.name), depth, first),
@@ -127,7 +120,7 @@ fn line(
 
 // The whole tree.
 pub fn all(
-    rt: &(impl Print + Eprint),
+    rt: &HostRuntime,
     blob: &[u8],
     a: Areas,
     reservations: usize,

@@ -7,21 +7,14 @@ use text_words::out;
 use text_words::out::Stream;
 
 // Says that line n is no call, and stops.
-fn wrong(rt: &(impl Print + Eprint), mut d: Desk, n: u64, form: usize) -> Desk {
+fn wrong(rt: &HostRuntime, mut d: Desk, n: u64, form: usize) -> Desk {
     told::wrong(rt, n, form);
     d.stop = 1;
     d
 }
 
 // Makes the call of line n; says what is wrong with it, or why it is refused. `before` are the lines before it.
-fn run_line(
-    rt: &(impl Print + Eprint),
-    d: Desk,
-    n: u64,
-    before: &[u8],
-    line: &[u8],
-    l: Line,
-) -> Desk {
+fn run_line(rt: &HostRuntime, d: Desk, n: u64, before: &[u8], line: &[u8], l: Line) -> Desk {
     if !l.right {
         return wrong(rt, d, n, l.verb);
     }
@@ -38,7 +31,7 @@ fn run_line(
 }
 
 // Finishes the blob and writes it.
-fn finish(rt: &(impl Print + Eprint), d: Desk, n: u64) {
+fn finish(rt: &HostRuntime, d: Desk, n: u64) {
     let mut blob = d.blob;
     let strings = d.strings;
     let w = d.writer;
@@ -56,7 +49,7 @@ fn finish(rt: &(impl Print + Eprint), d: Desk, n: u64) {
 }
 
 // Makes the calls of a list, finishes the blob and writes it; a line that is wrong or refused ends this.
-pub fn run(rt: &(impl Print + Eprint), lines: &[u8]) {
+pub fn run(rt: &HostRuntime, lines: &[u8]) {
     let mut d = desk::opened([0; 130], 0);
     let mut at = 0;
     let mut n: u64 = 0;

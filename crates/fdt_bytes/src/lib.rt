@@ -98,7 +98,7 @@ pub fn round_up(len: usize, alignment: usize) -> usize
 // Writes zeros to the front of the rest: as many as bring the length before it to a multiple of the alignment.
 pub fn align(rest: &mut [u8], len: usize, alignment: usize)
     requires alignment_nonzero { 0 < alignment }
-    requires len_in_bounds { padding alignment len ≤ length rest.old }
+    requires room { padding alignment len ≤ length rest.old }
     ensures { rest.new ≡ over (zeros (padding alignment len)) rest.old }
 {
     pad(rest, padding_of(len, alignment));

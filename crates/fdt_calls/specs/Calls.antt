@@ -9,13 +9,13 @@ use Rattle.fdt_record.specs.declared.Record.{Record}
 use Rattle.fdt_record.specs.Answers.{upon}
 use Rattle.fdt_record.specs.Rows.{Row}
 use Rattle.fdt_record.specs.Tests.{alone_rows}
-use Rattle.fdt_opening.specs.Opening as of-opening
-use Rattle.fdt_nodes.specs.Begin as of-begin
+use Rattle.fdt_opening.specs.Opening as of_opening
+use Rattle.fdt_nodes.specs.Begin as of_begin
 use Rattle.fdt_nodes.specs.End as of_end
-use Rattle.fdt_properties.specs.Property as of-property
-use Rattle.fdt_phandles.specs.Phandle as of-phandle
-use Rattle.fdt_finish.specs.Boot as of-boot
-use Rattle.fdt_finish.specs.Finish as of-finish
+use Rattle.fdt_properties.specs.Property as of_property
+use Rattle.fdt_phandles.specs.Phandle as of_phandle
+use Rattle.fdt_finish.specs.Boot as of_boot
+use Rattle.fdt_finish.specs.Finish as of_finish
 
 -- the public calls, with what they are given besides the record and the buffers
 pub data Call : Type 0 where
@@ -107,66 +107,66 @@ with_phandles phandles s = record { writer = s.writer; blob = s.blob; strings = 
 
 -- the answer; showing is never refused
 unfoldable pub answer : Request → Desk → Answer
-answer (to_open numbers) s = of-opening.opening_answer (length s.blob) (length s.strings) (length s.phandles) numbers
-answer (to_boot n) s = of-boot.boot_answer s.writer
-answer (to_begin name) s = of-begin.begin_answer s.writer (length s.blob) name
+answer (to_open numbers) s = of_opening.opening_answer (length s.blob) (length s.strings) (length s.phandles) numbers
+answer (to_boot n) s = of_boot.boot_answer s.writer
+answer (to_begin name) s = of_begin.begin_answer s.writer (length s.blob) name
 answer (to_end handle) s = of_end.end_answer s.writer (length s.blob) handle
-answer (to_have name v) s = of-property.property_answer s.writer s.blob s.strings name v
-answer (to_mark value) s = (of-phandle.phandle s.writer s.blob s.strings s.phandles value).answer
-answer to_finish s = of-finish.finish_answer s.writer (length s.blob) s.strings
+answer (to_have name v) s = of_property.property_answer s.writer s.blob s.strings name v
+answer (to_mark value) s = (of_phandle.phandle s.writer s.blob s.strings s.phandles value).answer
+answer to_finish s = of_finish.finish_answer s.writer (length s.blob) s.strings
 answer to_show s = Done
 
 -- the tests of a call in the order of documents 01 and 02, each with the answer that it gets. A phandle call makes its own tests, and then, with
 -- its value recorded, those of a property. Showing makes none.
 unfoldable pub rows : Request → Desk → List Row
-rows (to_open numbers) s = of-opening.opening_rows (length s.blob) (length s.strings) (length s.phandles) numbers
+rows (to_open numbers) s = of_opening.opening_rows (length s.blob) (length s.strings) (length s.phandles) numbers
 rows (to_boot n) s = alone_rows s.writer
-rows (to_begin name) s = of-begin.begin_rows s.writer (length s.blob) name
+rows (to_begin name) s = of_begin.begin_rows s.writer (length s.blob) name
 rows (to_end handle) s = of_end.end_rows s.writer (length s.blob) handle
-rows (to_have name v) s = of-property.property_rows s.writer s.blob s.strings name v
+rows (to_have name v) s = of_property.property_rows s.writer s.blob s.strings name v
 rows (to_mark value) s =
-    of-phandle.record_rows s.writer (length s.blob) s.strings s.phandles value
-    ++ of-property.property_rows (of-phandle.recorded s.writer) s.blob s.strings of-phandle.phandle_name (of-phandle.phandle_value value)
-rows to_finish s = of-finish.finish_rows s.writer (length s.blob) s.strings
+    of_phandle.record_rows s.writer (length s.blob) s.strings s.phandles value
+    ++ of_property.property_rows (of_phandle.recorded s.writer) s.blob s.strings of_phandle.phandle_name (of_phandle.phandle_value value)
+rows to_finish s = of_finish.finish_rows s.writer (length s.blob) s.strings
 rows to_show s = []
 
 -- the record that is returned, and the buffers afterwards
 unfoldable pub after : Request → Desk → Desk
 after (to_open numbers) s =
-    with_writer (of-opening.opening (length s.blob) (length s.strings) (length s.phandles) numbers).after
-    (with_blob (of-opening.opening_blob s.blob (length s.strings) (length s.phandles) numbers) s)
-after (to_boot n) s = with_writer (of-boot.boot s.writer n).after s
+    with_writer (of_opening.opening (length s.blob) (length s.strings) (length s.phandles) numbers).after
+    (with_blob (of_opening.opening_blob s.blob (length s.strings) (length s.phandles) numbers) s)
+after (to_boot n) s = with_writer (of_boot.boot s.writer n).after s
 after (to_begin name) s =
-    with_writer (of-begin.begin s.writer s.blob name).after (with_blob (of-begin.begin_blob s.writer s.blob name) s)
+    with_writer (of_begin.begin s.writer s.blob name).after (with_blob (of_begin.begin_blob s.writer s.blob name) s)
 after (to_end handle) s =
     with_writer (of_end.end s.writer s.blob handle).after (with_blob (of_end.end_blob s.writer s.blob handle) s)
 after (to_have name v) s =
-    with_writer (of-property.property s.writer s.blob s.strings name v).after
-    (with_blob (of-property.property_blob s.writer s.blob s.strings name v)
-    (with_strings (of-property.property_strings s.writer s.blob s.strings name v) s))
+    with_writer (of_property.property s.writer s.blob s.strings name v).after
+    (with_blob (of_property.property_blob s.writer s.blob s.strings name v)
+    (with_strings (of_property.property_strings s.writer s.blob s.strings name v) s))
 after (to_mark value) s =
-    with_writer (of-phandle.phandle s.writer s.blob s.strings s.phandles value).after
-    (with_blob (of-phandle.phandle_blob s.writer s.blob s.strings s.phandles value)
-    (with_strings (of-phandle.phandle_strings s.writer s.blob s.strings s.phandles value)
-    (with_phandles (of-phandle.phandle_table s.writer (length s.blob) s.strings s.phandles value) s)))
+    with_writer (of_phandle.phandle s.writer s.blob s.strings s.phandles value).after
+    (with_blob (of_phandle.phandle_blob s.writer s.blob s.strings s.phandles value)
+    (with_strings (of_phandle.phandle_strings s.writer s.blob s.strings s.phandles value)
+    (with_phandles (of_phandle.phandle_table s.writer (length s.blob) s.strings s.phandles value) s)))
 after to_finish s =
-    with_writer (of-finish.finish s.writer (length s.blob) s.strings).after
-    (with_blob (of-finish.finish_blob s.writer s.blob s.strings) s)
+    with_writer (of_finish.finish s.writer (length s.blob) s.strings).after
+    (with_blob (of_finish.finish_blob s.writer s.blob s.strings) s)
 after to_show s = s
 
 -- what a phandle call answers before its value is recorded
 abbrev pub mark_answer : ℕ → Desk → Answer
-mark_answer value s = of-phandle.record_answer s.writer (length s.blob) s.strings s.phandles value
+mark_answer value s = of_phandle.record_answer s.writer (length s.blob) s.strings s.phandles value
 
 -- the desk once a phandle's value is recorded
 abbrev pub marked : Desk → ℕ → Desk
 marked s value =
-    with_writer (of-phandle.recorded s.writer) (with_phandles (set s.phandles s.writer.phandles_used value) s)
+    with_writer (of_phandle.recorded s.writer) (with_phandles (set s.phandles s.writer.phandles_used value) s)
 
 -- what a refused call leaves, by its effect: nothing is altered. A refused opening, which takes no record, returns the closed one.
 -- The one exception is a phandle call that passed 13 and 16: its value stays recorded.
 unfoldable pub left_by : Effect → Desk → Desk
-left_by opens s = with_writer of-opening.closed_record s
+left_by opens s = with_writer of_opening.closed_record s
 left_by (sets_boot n) s = s
 left_by (adds e) s = s
 left_by (records value) s = upon (mark_answer value s) (marked s value) s

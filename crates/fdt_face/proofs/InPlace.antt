@@ -4,7 +4,7 @@ use mathlib.Core.Path.{◌≡◌, refl, ap}
 use Prim.Native.Nat.{ℕ, suc}
 use mathlib.Core.List.{List, [], ◌∷◌}
 use seplogic.Ra.Ura.{Ura}
-use seplogic.Ra.TreeShare.{full_share}
+use base.Fraction.{full_share}
 use mir.Syntax.{Fn, named}
 use mir.Val.{Val, vptr}
 use base.Logic.{SProp, ent, sep, ex, emp, via, fst∗, id⊢, comm∗, emp∗, mono_l}
@@ -63,7 +63,7 @@ unasked 𝓤 P = via 𝓤 (sep 𝓤 (emp 𝓤) P) (emp∗ 𝓤 P) (comm∗ 𝓤 
 module _ {M : Type 1} {𝓤 : Ura M} {𝓛 : Logic 𝓤} {K : Type 0} {Γ : List (Item 𝓤)} {G : Goal 𝓤 𝓛.H} where
   -- at entry: the borrow is opened, and what the core asks is made of the record, the other parameters and their tokens
   pub lends : K → Soaks G → (T : Declared) (L : LL.Laws T) (κ : Lft) (q : Share) (b o : ℕ) (γ : GName) (h : T.D) (Alive Pre : SProp 𝓤) (Tail : Fml)
-      → ent 𝓤 (sep 𝓤 Alive (sem 𝓛 (fsep ((row T).own h (LL.vals T L h)) Tail))) Pre
+      → ent 𝓤 (sep 𝓤 Alive (sem 𝓛 (fsep ((row T).own_val h (LL.vals T L h)) Tail))) Pre
       → (Is (row T) h (LL.vals T L h) → Seq K 𝓛 (raw Pre ∷ ‵ (cell_at full_share (row T).mir (LL.vals T L h) b o) ∷ ‵ (fobor κ q (Body (mem (row T)) b o γ)) ∷ ‵ (fobs γ ((row T).coded.code h)) ∷ ‵ (fauth γ ((row T).coded.code h)) ∷ Γ) G)
       → Seq K 𝓛 ((‵ (flft κ q) ⊛ raw Alive) ∷ ‵ (fsep ((MutRef (named 0) κ (row T)).own_val (record { ref_ptr = (b, o); ghost_name = γ; now = h }) (vptr b o ∷ [])) Tail) ∷ Γ) G
   lends t z T L κ q b o γ h Alive Pre Tail goes k =
@@ -84,9 +84,9 @@ last {𝓤 = 𝓤} {𝓛 = 𝓛} {Γ = Γ} t {P} {E} = step (λ s. record { prf 
 
 -- ---- what a core returns
 module _ {M : Type 1} {𝓤 : Ura M} (𝓛 : Logic 𝓤) (S : Ended) (c : Clauses 𝓤 S) (y : (triple_of 𝓛 S.signature (closing 𝓛 S c)).Ghost) where
-  -- a result, and the last values of the parameters
   open 𝓛 use {H}
 
+  -- a result, and the last values of the parameters
   abbrev pub Given-back : Type 0
   Given-back = Res S.signature y.0.0 × Lasts S y.0.0 y.0.3
 
@@ -119,11 +119,11 @@ module _ (n : ℕ) (os : List (Outlives (suc n))) (T : Declared) (ss : List (Slo
   module _ {M : Type 1} {𝓤 : Ura M} (𝓛 : Logic 𝓤) (c : Clauses 𝓤 face) (κs : Lfts (suc n)) (qs : Shares (suc n)) (bounds : AllOutlive (suc n) os κs) (x : MutBor T.D) (a : Denots (types_at ss κs)) (vss : Valss (types_at ss κs)) (g : (c κs (x, a)).ghost) where
     -- the walk ends with the borrow closed at the record h', and with what the core left
     pub exits : (v : Val) (r : Res face.signature κs) (h' : T.D) (ws : Fins κs ss ks a)
-        → ent 𝓤 (⋆ 𝓛 (‵ (fobs x.name ((row T).coded.code h')) ∷ ‵ (fbor κs.0 (Body (mem (row T)) x.ref_ptr.0 x.ref_ptr.1 x.name)) ∷ ‵ (flft κs.0 qs.0)
+        → ent 𝓤 (⋆ 𝓛 (‵ (fobs x.ghost_name ((row T).coded.code h')) ∷ ‵ (fbor κs.0 (Body (mem (row T)) x.ref_ptr.0 x.ref_ptr.1 x.ghost_name)) ∷ ‵ (flft κs.0 qs.0)
         ∷ raw (sep 𝓤 ((c κs (x, a)).ensures g r (at_exit face κs (x, a) (h', ws))) (sep 𝓤 (toks 𝓛 n κs.1 qs.1) (sem 𝓛 (fsep ftrue (lasts_of κs ss ks a ws))))) ∷ ‵ ((type_at ρ κs).own_val r (v ∷ [])) ∷ []))
         ((walk_of 𝓛 face stayed c).post ((κs, qs, bounds, (x, a), (vptr x.ref_ptr.0 x.ref_ptr.1 ∷ [], vss)), g) v)
     exits v r h' ws =
-        qed 𝓛 (‵ (fobs x.name ((row T).coded.code h')) ∷ ‵ (fbor κs.0 (Body (mem (row T)) x.ref_ptr.0 x.ref_ptr.1 x.name)) ∷ ‵ (flft κs.0 qs.0)
+        qed 𝓛 (‵ (fobs x.ghost_name ((row T).coded.code h')) ∷ ‵ (fbor κs.0 (Body (mem (row T)) x.ref_ptr.0 x.ref_ptr.1 x.ghost_name)) ∷ ‵ (flft κs.0 qs.0)
         ∷ (raw ((c κs (x, a)).ensures g r (at_exit face κs (x, a) (h', ws))) ⊛ (raw (toks 𝓛 n κs.1 qs.1) ⊛ ‵ (fsep ftrue (lasts_of κs ss ks a ws)))) ∷ ‵ ((type_at ρ κs).own_val r (v ∷ [])) ∷ []) ∵
         suffices ! _ (ends_at 𝓛 face stayed c ((κs, qs, bounds, (x, a), (vptr x.ref_ptr.0 x.ref_ptr.1 ∷ [], vss)), g) v r (h', ws) (tt, fit_lefts κs ss ks a ws)) $
         move ! (3 ∷ []) $ split ! $ last ! $ split ! $ move ! (1 ∷ []) $ fsplit ! $ drop ! $ rewrite ! 0 (λ (P : Fml). ‵ P) (has_lefts κs ss ks a ws vss) refl $
@@ -131,7 +131,7 @@ module _ (n : ℕ) (os : List (Outlives (suc n))) (T : Declared) (ss : List (Slo
 
     -- what a walk goes to
     abbrev pub Post : Val → SProp 𝓤
-    Post = (walk_of 𝓛 face stayed c).post ((κs, qs, bounds, (x, a), (vptr x.ptr.0 x.ptr.1 ∷ [], vss)), g)
+    Post = (walk_of 𝓛 face stayed c).post ((κs, qs, bounds, (x, a), (vptr x.ref_ptr.0 x.ref_ptr.1 ∷ [], vss)), g)
 
   -- the walk is taken to the contract. A `requires` is not used
   pub meets : {M : Type 1} {𝓤 : Ura M} (𝓛 : Logic 𝓤) (c : Clauses 𝓤 face) (fn : Fn) (𝓣 : Tables 𝓤 𝓛.H)

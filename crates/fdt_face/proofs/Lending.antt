@@ -17,8 +17,8 @@ use denote.RattleType.{RattleType}
 use denote.Memory.{pointee}
 use denote.Laws.{Is}
 use denote.Plain.{UInt, uint_Lawful}
-use denote.Ref.{Bor}
-use denote.Slice.{slice_ty, slice_val, shr_slice_vals, MutSlice, mut_slice_Lawful, ShrSlice, shr_slice_Lawful}
+use denote.Ref.{Bor, MutBor}
+use denote.Slice.{slice_ty, slice_val, shr_slice_vals, mut_slice_vals, MutSlice, mut_slice_Lawful, ShrSlice, shr_slice_Lawful}
 use denote.Struct.Declared.{Declared, row, shape}
 use denote.Struct.Struct.{layout}
 use denote.Struct.Laws as LL
@@ -65,9 +65,9 @@ passed (slice ℓ τ p n ∷ ps) i j = copy (place (suc j) []) ∷ passed ps (su
 passed (ref ℓ τ p ∷ ps) i j = copy (place j []) ∷ passed ps (suc i) (suc j)
 
 module _ {M : Type 1} {𝓤 : Ura M} {𝓛 : Logic 𝓤} {K : Type 0} (E : Env 𝓤 𝓛.H) where
-  -- the parameters that are lent are in the locals that lend them
   open 𝓛 use {H}
 
+  -- the parameters that are lent are in the locals that lend them
   pub lend_all : K → (ps : List Param) (bs : Blocks (owns ps)) (cs : Blocks (lents ps)) → Typeds (lents ps) → (i j : ℕ) → Spots 𝓤 H E i (owns ps) bs → Spots 𝓤 H E j (lents ps) cs
       → (C : Calls 𝓤 H) (Λ : Loops 𝓤 H) (q : Post 𝓤 H) (rest : Body) {Γ : List (Item 𝓤)}
       → Step K 𝓛 (‵ (cells (owns ps) bs) ∷ ‵ (cells (lents ps) cs) ∷ Γ) (runs C Λ E rest q) (‵ (cells (owns ps) bs) ∷ ‵ (rooms (lents ps) cs) ∷ Γ) (runs C Λ E (lending ps i j rest) q)
@@ -105,15 +105,15 @@ pub data Arg : Type 2 where
   shared_slice : (ℓ : Lifetime) (κ : Lft) (R : RattleType) (x : Bor (List R.Denot)) → Is (ShrSlice ℓ κ R) x (shr_slice_vals x) → Arg
   number : (w : Width) (n : ℕ) → Is (UInt w) n (vint w n ∷ []) → Arg
   struct : (T : Declared) (L : LL.Laws T) (x : T.D) → Is (row T) x (LL.vals T L x) → Arg
-  lent_slice : (ℓ : Lifetime) (κ : Lft) (R : RattleType) (x : Bor (List R.Denot)) → Is (MutSlice ℓ κ R) x (shr_slice_vals x) → Arg
-  lent_ref : (ℓ : Lifetime) (R : RattleType) (x : Bor R.Denot) → Arg
+  lent_slice : (ℓ : Lifetime) (κ : Lft) (R : RattleType) (x : MutBor (List R.Denot)) → Is (MutSlice ℓ κ R) x (mut_slice_vals x) → Arg
+  lent_ref : (ℓ : Lifetime) (R : RattleType) (x : MutBor R.Denot) → Arg
 
 abbrev pub param : Arg → Param
 param (shared_slice ℓ κ R x is) = copied (slice_ty (ty_ref ℓ imm (pointee R.written))) (slice_val x.ref_ptr (length x.now))
 param (number w n is) = copied (ty_int w) (vint w n)
 param (struct T L x is) = copied (layout (shape T)) (LL.val T L x)
 param (lent_slice ℓ κ R x is) = slice ℓ (pointee R.written) x.ref_ptr (length x.now)
-param (lent_ref ℓ R x) = ref ℓ (pointee R.written) x.ptr
+param (lent_ref ℓ R x) = ref ℓ (pointee R.written) x.ref_ptr
 
 abbrev pub params : List Arg → List Param
 params [] = []

@@ -3,7 +3,7 @@ use mathlib.Core.Path.{◌≡◌, refl, sym, subst}
 use Prim.Native.Nat.{ℕ, zero, suc}
 use mathlib.Core.List.{List, [], ◌∷◌}
 use seplogic.Ra.Ura.{Ura}
-use seplogic.Ra.TreeShare.{full_share}
+use base.Fraction.{full_share}
 use lib.Dec.{T}
 use mir.Syntax.{Ty, Step as PStep, Local, local, value_local, place}
 use mir.Val.{Val, WT, has_ty}
@@ -75,9 +75,9 @@ module _ {M : Type 1} (𝓤 : Ura M) (H : Heap 𝓤) where
   behind E i (x ∷ xs) bs ys cs s = below _ _ _ ys cs (behind E i xs bs.1 ys cs s)
 
 module _ {M : Type 1} {𝓤 : Ura M} {𝓛 : Logic 𝓤} {K : Type 0} where
-  -- a local that holds something is freed
   open 𝓛 use {H}
 
+  -- a local that holds something is freed
   pub ends : K → {Γ : List (Item 𝓤)} {τ : Ty} {b : ℕ} {v : Val} {E : Env 𝓤 H} {g : Goal 𝓤 H} → Step K 𝓛 Γ (frees E g) (‵ (fat full_share τ b zero v) ∷ ‵ (fdies τ b) ∷ Γ) (frees ((τ, b) ∷ E) g)
   ends t = step (λ s. forget t 0 refl $ free1 t $ s)
 

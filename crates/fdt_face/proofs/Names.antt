@@ -9,6 +9,6 @@ pub use denote.Ref.{shr_vals, mut_vals, mut_Tells}
 pub use denote.Slice.{shr_slice_vals, mut_slice_vals, mut_slice_Tells, shr_slice_Tells}
 pub use Rattle.fdt_face.proofs.InPlace.{unasked}
 pub use Rattle.fdt_face.proofs.Lending.{shared_slice, number, struct, lent_slice, lent_ref}
-pub use Rattle.fdt_face.proofs.Thin.{val_of}
+pub use Rattle.fdt_face.proofs.Thin.{val_of, at_once, by_local}
 pub use Rattle.fdt_face.proofs.Meets.{in_place}
 pub use Rattle.fdt_face.proofs.Returned.{answered, node_made}

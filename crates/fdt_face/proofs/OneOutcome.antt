@@ -1,4 +1,4 @@
--- Two results of `begin_node` in place are equal: the answer, the handle, the writer that is left, and every byte and entry lent. Of the other calls `one-called` says it.
+-- Two results of `begin_node` in place are equal: the answer, the handle, the writer that is left, and every byte and entry lent. Of the other calls `one_called` says it.
 use mathlib.Core.Path.{◌≡◌, sym, ◌∙◌}
 use mathlib.Core.List.{List}
 use Rattle.fdt_calls.specs.Calls.{begin_node, Desk}

@@ -78,10 +78,10 @@ fn put_header(blob: &mut [u8], words: &[u32])
 
 // Writes word 9 and the used strings into the rest of the blob, and the header in front.
 fn put_finish(w: Record, blob: &mut [u8], strings: &[u8])
-    requires reservations_bound { structure_start w.reservations ≤ w.blob_used }
-    requires strings_used_bound { w.blob_used + (4 + w.strings_used) < 2 ^ 32 }
-    requires strings_used_in_bounds { w.blob_used + (4 + w.strings_used) ≤ length blob.old }
-    requires strings_used_in_bounds_2 { w.strings_used ≤ length strings.now }
+    requires started { structure_start w.reservations ≤ w.blob_used }
+    requires total { w.blob_used + (4 + w.strings_used) < 2 ^ 32 }
+    requires room { w.blob_used + (4 + w.strings_used) ≤ length blob.old }
+    requires strings_lent { w.strings_used ≤ length strings.now }
     ensures { blob.new ≡ finished_blob w blob.old strings.now }
 {
     let used = w.blob_used;

@@ -1,4 +1,4 @@
-// Tests of names: of nodes, of properties, and for a byte 0. Loops over bytes have no early exit, so that many can be tested at once.
+// Tests of names: of nodes, of properties, and for a byte 0. Loops over bytes have no early exit, so that many can be tested at once; only the search for the @ has one.
 #![tactic(auto)]
 
 ghost use Rattle.std.specs.Prelude.{◌≡◌, ◌&&◌, ◌||◌, leb, ◌+◌, ◌<◌, ◌≤◌, length, drop};

@@ -71,7 +71,7 @@ use Rattle.fdt_promises.proofs.OpenNode.{left_open}
 use Rattle.fdt_promises.proofs.OwnBytes.{recorded-own, only-own}
 use Rattle.fdt_promises.proofs.PastUsable.{past-usable, shown-usable}
 use Rattle.fdt_promises.proofs.Described.{run_holds, run_fits, run_given, run_repeated, run_refused, run_marked, run_shown, run_distinct, run_length, run_read, same_runs, same-history}
-use Rattle.fdt_promises.proofs.Examples.{empty_run_lem, node_run, examples-shown}
+use Rattle.fdt_promises.proofs.Examples.{empty_run, node_run, examples-shown}
 use Rattle.fdt_promises.proofs.Idle.{same_told, same_kinds, kinds_as_bytes, same-phandle, one_more}
 use Rattle.fdt_promises.proofs.ReadBack.{none_written, read_back}
 use Rattle.fdt_promises.proofs.Starred.{starred_hold}
@@ -327,7 +327,7 @@ pub starred_cases : all_hold starred ≡ true
 starred_cases = starred_hold
 
 -- Its empty run and its run with one node, over buffers with earlier contents: both finish and show its words.
-pub empty_and_node : Finishes empty_run_lem × (blob empty_run_lem ≡ cell_bytes 4 empty_words) × Finishes node_run × (blob node_run ≡ cell_bytes 4 node_words)
+pub empty_and_node : Finishes empty_run × (blob empty_run ≡ cell_bytes 4 empty_words) × Finishes node_run × (blob node_run ≡ cell_bytes 4 node_words)
 empty_and_node = examples-shown
 
 -- Blobs that our writer does not make, in one table: each is read or refused as document 01 and request 3/14 say.

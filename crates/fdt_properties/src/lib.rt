@@ -142,6 +142,7 @@ fn after_property(w: Record, len: usize, added: usize) -> Record
 }
 
 // The tests of the name's place and of the rooms: 20, 15, 14.
+#[tactic(auto, unfolding(fdt_record::specs::Rows::first))]
 fn place_tests(repeated: bool, full: bool, after: Record) -> Answer
     ensures { result ≡ first ((repeated ⇒ DuplicateProperty) ∷ (full ⇒ StringRoom) ∷ (overfull after ⇒ BlobRoom) ∷ []) }
 {

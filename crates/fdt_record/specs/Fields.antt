@@ -5,7 +5,7 @@ use Rattle.fdt_record.specs.declared.Record.{Record}
 -- the numbers that calls set
 pub data Number : Type 0 where
   used_blob : Number
-  used_strings_lem : Number
+  used_strings : Number
   used_phandles : Number
   depth : Number
   start : Number
@@ -19,7 +19,7 @@ pub data Flag : Type 0 where
 -- their places, by which two are distinguished
 abbrev number_place : Number → ℕ
 number_place used_blob = 0
-number_place used_strings_lem = 1
+number_place used_strings = 1
 number_place used_phandles = 2
 number_place depth = 3
 number_place start = 4
@@ -50,7 +50,7 @@ setting s w = record {
   blob_room = w.blob_room;
   blob_used = new_number used_blob s w.blob_used;
   strings_room = w.strings_room;
-  strings_used = new_number used_strings_lem s w.strings_used;
+  strings_used = new_number used_strings s w.strings_used;
   phandles_room = w.phandles_room;
   phandles_used = new_number used_phandles s w.phandles_used;
   reservations = w.reservations;
@@ -65,7 +65,7 @@ abbrev pub with_used_blob : ℕ → Record → Record
 with_used_blob n = setting (number used_blob n)
 
 abbrev pub with_used_strings : ℕ → Record → Record
-with_used_strings n = setting (number used_strings_lem n)
+with_used_strings n = setting (number used_strings n)
 
 abbrev pub with_used_phandles : ℕ → Record → Record
 with_used_phandles n = setting (number used_phandles n)

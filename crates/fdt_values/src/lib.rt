@@ -24,8 +24,8 @@ pub fn sums_to(lengths: &[usize], total: usize) -> bool
 
 // Writes strings into the blob from `at` on, each with a 0 after it. They are given as their joined bytes and their lengths.
 pub fn texts_at(blob: &mut [u8], at: usize, joined: &[u8], lengths: &[usize])
-    requires lengths_value { sum lengths.now ≡ length joined.now }
-    requires lengths_in_bounds { at + (length joined.now + length lengths.now) ≤ length blob.old }
+    requires lengths_sum { sum lengths.now ≡ length joined.now }
+    requires room { at + (length joined.now + length lengths.now) ≤ length blob.old }
     ensures { blob.new ≡ splice at (text_bytes joined.now lengths.now) blob.old }
 {
     let mut to = at;

@@ -16,13 +16,13 @@ fn put_bytes(stored: bool, buffer: &mut [u8], at: usize, val: &[u8]) {
 }
 
 // The same, and writes the buffer out.
-fn show_bytes<R: Print + Eprint>(rt: &R, stored: bool, buffer: &mut [u8], at: usize, val: &[u8]) {
+fn show_bytes(rt: &HostRuntime, stored: bool, buffer: &mut [u8], at: usize, val: &[u8]) {
     put_bytes(stored, buffer, at, val);
     said::bytes(rt, buffer, Style::Bytes, false);
 }
 
 // `store .. at AT` and `append_bytes`.
-pub fn bytes<R: Print + Eprint>(rt: &R, stored: bool, asked: &[u8], given: &[u8]) {
+pub fn bytes(rt: &HostRuntime, stored: bool, asked: &[u8], given: &[u8]) {
     let mut buffer = text_words::buffer();
     let n = spelling::word(given, 0, &mut buffer);
     let mut val = text_words::buffer();
@@ -55,13 +55,13 @@ fn put_number(kind: usize, buffer: &mut [u8], at: usize, val: u64) {
 }
 
 // The same, and writes the buffer out.
-fn show_number<R: Print + Eprint>(rt: &R, kind: usize, buffer: &mut [u8], at: usize, val: u64) {
+fn show_number(rt: &HostRuntime, kind: usize, buffer: &mut [u8], at: usize, val: u64) {
     put_number(kind, buffer, at, val);
     said::bytes(rt, buffer, Style::Bytes, false);
 }
 
 // `append_u32`, `append_u64`, `update_u32 .. at AT` and `align`.
-pub fn number<R: Print + Eprint>(rt: &R, kind: usize, asked: &[u8], given: &[u8]) {
+pub fn number(rt: &HostRuntime, kind: usize, asked: &[u8], given: &[u8]) {
     let mut buffer = text_words::buffer();
     let n = spelling::word(given, 0, &mut buffer);
     let at = numbers::number(asked, 3) as usize;

@@ -7,7 +7,7 @@ const KINDS: [u8; 99] =
     *b"node property zero reservation overlap find ask store append_bytes append_u32 append_u64 update_u32";
 
 // Writes a case and its answer. The first word says which leaf is called.
-fn answered<R: Print + Eprint>(rt: &R, asked: &[u8], given: &[u8]) {
+fn answered(rt: &HostRuntime, asked: &[u8], given: &[u8]) {
     text(rt, asked);
     text(rt, b": ");
     let kind = text_words::place(&KINDS, 12, text_words::word(asked, 0));
@@ -23,13 +23,13 @@ fn answered<R: Print + Eprint>(rt: &R, asked: &[u8], given: &[u8]) {
 }
 
 // Writes the case on a line.
-fn case<R: Print + Eprint>(rt: &R, line: &[u8]) {
+fn case(rt: &HostRuntime, line: &[u8]) {
     let bar = text_words::next(line, 0, b'|');
     answered(rt, text_words::piece(line, 0, b'|'), &line[bar..]);
 }
 
 // Writes each case.
-pub fn each<R: Print + Eprint>(rt: &R, lines: &[u8]) {
+pub fn each(rt: &HostRuntime, lines: &[u8]) {
     let mut start = 0;
     while start < lines.len() {
         case(rt, text_words::piece(lines, start, b'\n'));

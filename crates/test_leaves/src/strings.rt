@@ -3,13 +3,13 @@ use fdt_strings::{Found, Interned};
 use text_lines::{numbers, said, spelling};
 
 // Writes an offset.
-fn told<R: Print + Eprint>(rt: &R, what: &[u8], offset: usize) {
+fn told(rt: &HostRuntime, what: &[u8], offset: usize) {
     said::text(rt, what);
     said::number(rt, offset as u64);
 }
 
 // `find NAME in STRINGS`.
-pub fn find<R: Print + Eprint>(rt: &R, asked: &[u8]) {
+pub fn find(rt: &HostRuntime, asked: &[u8]) {
     let mut name = text_words::buffer();
     let n = spelling::word(asked, 1, &mut name);
     let mut strings = text_words::buffer();
@@ -21,7 +21,7 @@ pub fn find<R: Print + Eprint>(rt: &R, asked: &[u8]) {
 }
 
 // `ask NAME with room ROOM|USED`.
-pub fn ask<R: Print + Eprint>(rt: &R, asked: &[u8], given: &[u8]) {
+pub fn ask(rt: &HostRuntime, asked: &[u8], given: &[u8]) {
     let mut name = text_words::buffer();
     let n = spelling::word(asked, 1, &mut name);
     let mut used = text_words::buffer();

@@ -3,12 +3,12 @@ use fdt_reserve::{FdtReserveEntry, Reserved};
 use text_lines::said;
 
 // Writes the answer of a test.
-fn told<R: Print + Eprint>(rt: &R, passed: bool, refusal: u64) {
+fn told(rt: &HostRuntime, passed: bool, refusal: u64) {
     said::number(rt, if passed { 0 } else { refusal });
 }
 
 // Tests a name: of a node, of a property, or any name for a byte 0.
-fn tested<R: Print + Eprint>(rt: &R, kind: usize, name: &[u8]) {
+fn tested(rt: &HostRuntime, kind: usize, name: &[u8]) {
     match kind {
         0 => told(rt, fdt_names::node_name_valid(name), 10),
         1 => told(rt, fdt_names::property_name_valid(name), 11),
@@ -17,14 +17,14 @@ fn tested<R: Print + Eprint>(rt: &R, kind: usize, name: &[u8]) {
 }
 
 // `node NAME`, `property NAME`, `zero NAME`.
-pub fn name<R: Print + Eprint>(rt: &R, kind: usize, asked: &[u8]) {
+pub fn name(rt: &HostRuntime, kind: usize, asked: &[u8]) {
     let mut name = text_words::buffer();
     let n = text_lines::spelling::word(asked, 1, &mut name);
     tested(rt, kind, &name[..n]);
 }
 
 // Makes one reservation. 99 if it has another address or size.
-fn reserved<R: Print + Eprint>(rt: &R, address: u64, size: u64) {
+fn reserved(rt: &HostRuntime, address: u64, size: u64) {
     if let Reserved::Entry(e) = FdtReserveEntry::new(address, size) {
         told(rt, e.address == address && e.size == size, 99);
     } else {
@@ -33,7 +33,7 @@ fn reserved<R: Print + Eprint>(rt: &R, address: u64, size: u64) {
 }
 
 // `reservation ADDRESS SIZE`, and `overlap` with any list of numbers.
-pub fn reservations<R: Print + Eprint>(rt: &R, kind: usize, asked: &[u8]) {
+pub fn reservations(rt: &HostRuntime, kind: usize, asked: &[u8]) {
     let mut list = [0; 8];
     let n = text_lines::numbers::numbers(asked, 1, &mut list);
     if kind == 3 {

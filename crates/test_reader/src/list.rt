@@ -27,7 +27,7 @@ fn put(line: &[u8], blob: &mut [u8]) {
 }
 
 // Writes the numbers of the list that a line asks for.
-fn show<R: Print + Eprint>(rt: &R, line: &[u8], list: &[u32], lent: usize) {
+fn show(rt: &HostRuntime, line: &[u8], list: &[u32], lent: usize) {
     let from = numbers::number(line, 1) as usize;
     let to = numbers::number(line, 2) as usize;
     said::cells(rt, list, from, text_words::least(to, lent), false);
@@ -35,13 +35,7 @@ fn show<R: Print + Eprint>(rt: &R, line: &[u8], list: &[u32], lent: usize) {
 }
 
 // Runs a line.
-fn run<R: Print + Eprint>(
-    rt: &R,
-    line: &[u8],
-    before: Lent,
-    blob: &mut [u8],
-    list: &mut [u32],
-) -> Lent {
+fn run(rt: &HostRuntime, line: &[u8], before: Lent, blob: &mut [u8], list: &mut [u32]) -> Lent {
     let mut lent = before;
     let verb = text_words::place(b"put lend read list", 4, text_words::word(line, 0));
     match verb {
@@ -61,7 +55,7 @@ fn run<R: Print + Eprint>(
 }
 
 // Runs each line of a list.
-pub fn each<R: Print + Eprint>(rt: &R, lines: &[u8], blob: &mut [u8], list: &mut [u32]) {
+pub fn each(rt: &HostRuntime, lines: &[u8], blob: &mut [u8], list: &mut [u32]) {
     let mut lent = Lent {
         bytes: 0,
         numbers: 0,

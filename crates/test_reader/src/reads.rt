@@ -14,7 +14,7 @@ fn fill(list: &mut [u32]) {
 }
 
 // Reads a blob into a list, and writes the answer, the place of the first fault, and the list's check value.
-fn report<R: Print + Eprint>(rt: &R, blob: &[u8], list: &mut [u32]) {
+fn report(rt: &HostRuntime, blob: &[u8], list: &mut [u32]) {
     fill(list);
     let answer = fdt_reader::read(blob, list);
     let v = fdt_reader::values_of(answer);
@@ -35,7 +35,7 @@ fn report<R: Print + Eprint>(rt: &R, blob: &[u8], list: &mut [u32]) {
 }
 
 // The same with so many bytes and so many numbers, as far as there are any.
-pub fn run<R: Print + Eprint>(rt: &R, blob: &[u8], lent: usize, list: &mut [u32], room: usize) {
+pub fn run(rt: &HostRuntime, blob: &[u8], lent: usize, list: &mut [u32], room: usize) {
     let from = 0;
     let to = text_words::least(room, list.len());
     report(rt, text_words::part(blob, 0, lent), &mut list[from..to]);

@@ -54,7 +54,7 @@ pub fn set(r: Record, line: &[u8]) -> Record {
 }
 
 // Writes the names of the fields, or each with its number; with `led`, a space comes first.
-pub fn look<R: Print + Eprint>(rt: &R, r: Record, verb: usize, led: bool) {
+pub fn look(rt: &HostRuntime, r: Record, verb: usize, led: bool) {
     if verb == verbs::FIELDS {
         said::gap(rt, led);
         said::text(rt, &NAMES);

@@ -19,7 +19,7 @@ fn after(d: Desk, verb: usize, line: &[u8]) -> Desk {
 }
 
 // Runs a line and writes its output; `aloud` and `quiet` have none.
-fn run<R: Print + Eprint>(rt: &R, d: Desk, line: &[u8]) -> Desk {
+fn run(rt: &HostRuntime, d: Desk, line: &[u8]) -> Desk {
     let verb = verbs::asked(line);
     let next = after(d, verb, line);
     if verb < verbs::ALOUD || verb == verbs::REMARK {
@@ -29,7 +29,7 @@ fn run<R: Print + Eprint>(rt: &R, d: Desk, line: &[u8]) -> Desk {
 }
 
 // Runs each line of a list.
-pub fn each<R: Print + Eprint>(rt: &R, lines: &[u8]) {
+pub fn each(rt: &HostRuntime, lines: &[u8]) {
     let mut d = desk::closed();
     let mut at = 0;
     while at < lines.len() {

@@ -5,7 +5,7 @@ use text_lines::said::Style;
 use text_lines::{numbers, said};
 
 // How long the shown part is, and the part.
-fn shown<R: Print + Eprint>(rt: &R, part: &[u8], aloud: bool) {
+fn shown(rt: &HostRuntime, part: &[u8], aloud: bool) {
     if !aloud {
         said::number(rt, part.len() as u64);
         said::bytes(rt, part, Style::Digits, true);
@@ -18,14 +18,14 @@ fn shown<R: Print + Eprint>(rt: &R, part: &[u8], aloud: bool) {
 }
 
 // The shown part of the lent blob.
-fn show<R: Print + Eprint>(rt: &R, d: Desk) {
+fn show(rt: &HostRuntime, d: Desk) {
     let blob = d.blob;
     let w = d.writer;
     shown(rt, w.show(text_words::part(&blob, 0, d.blob_lent)), d.aloud);
 }
 
 // A part of the lent blob, strings or phandles.
-fn part<R: Print + Eprint>(rt: &R, d: Desk, verb: usize, from: usize, to: usize) {
+fn part(rt: &HostRuntime, d: Desk, verb: usize, from: usize, to: usize) {
     let blob = d.blob;
     let strings = d.strings;
     let phandles = d.phandles;
@@ -53,7 +53,7 @@ fn part<R: Print + Eprint>(rt: &R, d: Desk, verb: usize, from: usize, to: usize)
 }
 
 // Writes what a line asks to see.
-pub fn run<R: Print + Eprint>(rt: &R, d: Desk, verb: usize, line: &[u8]) {
+pub fn run(rt: &HostRuntime, d: Desk, verb: usize, line: &[u8]) {
     match verb {
         verbs::SHOW => show(rt, d),
         verbs::RECORD | verbs::FIELDS => fields::look(rt, d.writer.0, verb, d.aloud),

@@ -16,14 +16,14 @@ fn checks(d: Desk) -> [u64; 3] {
 }
 
 // A report: what a call answered, the record's fields, and the check values of what it was lent.
-fn report<R: Print + Eprint>(rt: &R, d: Desk) {
+fn report(rt: &HostRuntime, d: Desk) {
     said::numbers(rt, &[d.number as u64, d.handle as u64], false);
     said::numbers(rt, &fields::apart(d.writer.0), true);
     said::numbers(rt, &checks(d), true);
 }
 
 // What a call answered, and the handle if it begins a node.
-fn answer<R: Print + Eprint>(rt: &R, verb: usize, number: u64, handle: u64) {
+fn answer(rt: &HostRuntime, verb: usize, number: u64, handle: u64) {
     said::gap(rt, true);
     said::number(rt, number);
     if verb == verbs::BEGIN_NODE {
@@ -33,7 +33,7 @@ fn answer<R: Print + Eprint>(rt: &R, verb: usize, number: u64, handle: u64) {
 }
 
 // Writes a line again, in the mode `aloud`.
-fn again<R: Print + Eprint>(rt: &R, aloud: bool, verb: usize, line: &[u8]) {
+fn again(rt: &HostRuntime, aloud: bool, verb: usize, line: &[u8]) {
     if aloud {
         said::text(rt, line);
         if verb < verbs::BUFFERS {
@@ -43,7 +43,7 @@ fn again<R: Print + Eprint>(rt: &R, aloud: bool, verb: usize, line: &[u8]) {
 }
 
 // Writes the output for a line that was run.
-pub fn line<R: Print + Eprint>(rt: &R, d: Desk, verb: usize, line: &[u8]) {
+pub fn line(rt: &HostRuntime, d: Desk, verb: usize, line: &[u8]) {
     again(rt, d.aloud, verb, line);
     if verbs::SHOW <= verb {
         if verb < verbs::BUFFERS {

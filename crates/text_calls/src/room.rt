@@ -8,7 +8,7 @@ pub fn names() -> [u8; 8_192]
     [0; 8_192]
 }
 
-// The bytes of a blob, as long as its ceiling; no line's values have more.
+// The bytes of a blob, as long as its ceiling: no blob has room for more.
 pub fn bytes() -> [u8; 65_536]
     ensures { 65536 ≡ length result }
 {

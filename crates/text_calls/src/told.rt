@@ -63,12 +63,12 @@ pub const LATE: usize = 12;
 pub const TWICE: u32 = 20;
 
 // Writes bytes as they are.
-pub fn text(rt: &(impl Print + Eprint), s: &[u8]) {
+pub fn text(rt: &HostRuntime, s: &[u8]) {
     out::write_all(rt, Stream::Stderr, s);
 }
 
 // Writes the number n of a line, and row k of the messages.
-fn line(rt: &(impl Print + Eprint), n: u64, rows: &[u8], k: usize) {
+fn line(rt: &HostRuntime, n: u64, rows: &[u8], k: usize) {
     text(rt, b"line ");
     out::print_decimal(rt, Stream::Stderr, n);
     text(rt, b": ");
@@ -76,19 +76,19 @@ fn line(rt: &(impl Print + Eprint), n: u64, rows: &[u8], k: usize) {
 }
 
 // Says that line n is no call, and what form it should have.
-pub fn wrong(rt: &(impl Print + Eprint), n: u64, form: usize) {
+pub fn wrong(rt: &HostRuntime, n: u64, form: usize) {
     line(rt, n, &FORMS, form);
     text(rt, b"\n");
 }
 
 // Writes the call of line n that is refused or, at the end of the list, the finish; and the number of the refusal.
-fn refusal(rt: &(impl Print + Eprint), n: u64, verb: usize, number: u32) {
+fn refusal(rt: &HostRuntime, n: u64, verb: usize, number: u32) {
     line(rt, n, &CALLS, verb);
     out::print_decimal(rt, Stream::Stderr, number as u64);
 }
 
 // Says that the call of line n is refused.
-pub fn refused(rt: &(impl Print + Eprint), n: u64, verb: usize, number: u32) {
+pub fn refused(rt: &HostRuntime, n: u64, verb: usize, number: u32) {
     refusal(rt, n, verb, number);
     text(rt, text_words::nth(&REFUSALS, number as usize, b'\n'));
     text(rt, b"\n");
@@ -96,7 +96,7 @@ pub fn refused(rt: &(impl Print + Eprint), n: u64, verb: usize, number: u32) {
 
 // Writes the path of the last open node: the names of the open nodes, a slash before each. A root without a name is a slash alone,
 // and adds nothing to the paths below it.
-fn path(rt: &(impl Print + Eprint), lines: &[u8], v: Nodes) {
+fn path(rt: &HostRuntime, lines: &[u8], v: Nodes) {
     let begins = v.begins;
     let depth = text_words::least(v.depth, nodes::DEEPEST);
     let mut k = 0;
@@ -111,7 +111,7 @@ fn path(rt: &(impl Print + Eprint), lines: &[u8], v: Nodes) {
 }
 
 // Says that the property of line n is refused because its node has one of this name, and which of the lines before gave it.
-pub fn twice(rt: &(impl Print + Eprint), n: u64, verb: usize, before: &[u8], name: &[u8]) {
+pub fn twice(rt: &HostRuntime, n: u64, verb: usize, before: &[u8], name: &[u8]) {
     let v = nodes::after(before, name);
     let given = v.given;
     refusal(rt, n, verb, TWICE);

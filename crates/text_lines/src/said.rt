@@ -13,29 +13,29 @@ pub enum Style {
 }
 
 // Writes bytes as they are.
-pub fn text<R: Print + Eprint>(rt: &R, s: &[u8]) {
+pub fn text(rt: &HostRuntime, s: &[u8]) {
     out::write_all(rt, Stream::Stdout, s);
 }
 
 // A space, or nothing.
-pub fn gap<R: Print + Eprint>(rt: &R, is: bool) {
+pub fn gap(rt: &HostRuntime, is: bool) {
     if is {
         text(rt, b" ");
     }
 }
 
 // A number in decimal.
-pub fn number<R: Print + Eprint>(rt: &R, n: u64) {
+pub fn number(rt: &HostRuntime, n: u64) {
     out::print_decimal(rt, Stream::Stdout, n);
 }
 
 // A space, or nothing.
-fn put_gap<R: Print + Eprint>(rt: &R, o: Out, is: bool) -> Out {
+fn put_gap(rt: &HostRuntime, o: Out, is: bool) -> Out {
     if is { out::byte(rt, o, b' ') } else { o }
 }
 
 // A byte in a style.
-fn put_byte<R: Print + Eprint>(rt: &R, o: Out, b: u8, letters: bool) -> Out {
+fn put_byte(rt: &HostRuntime, o: Out, b: u8, letters: bool) -> Out {
     if !letters {
         return out::hex_byte(rt, o, b);
     }
@@ -66,7 +66,7 @@ fn letters(style: Style) -> bool {
 }
 
 // Writes bytes in a style; without `led`, no space comes first.
-pub fn bytes<R: Print + Eprint>(rt: &R, s: &[u8], style: Style, led: bool) {
+pub fn bytes(rt: &HostRuntime, s: &[u8], style: Style, led: bool) {
     let mut o = out::to(Stream::Stdout);
     let mut i = 0;
     while i < s.len() {
@@ -78,7 +78,7 @@ pub fn bytes<R: Print + Eprint>(rt: &R, s: &[u8], style: Style, led: bool) {
 }
 
 // Writes numbers with a space between two; with `led`, a space comes first.
-pub fn numbers<R: Print + Eprint>(rt: &R, list: &[u64], led: bool) {
+pub fn numbers(rt: &HostRuntime, list: &[u64], led: bool) {
     let mut o = out::to(Stream::Stdout);
     let mut i = 0;
     while i < list.len() {
@@ -94,7 +94,7 @@ fn wide(n: u32) -> u64 {
 }
 
 // The same for a table's numbers from one index up to another, as far as the table reaches.
-pub fn cells<R: Print + Eprint>(rt: &R, t: &[u32], from: usize, to: usize, led: bool) {
+pub fn cells(rt: &HostRuntime, t: &[u32], from: usize, to: usize, led: bool) {
     let mut o = out::to(Stream::Stdout);
     let mut i = from;
     while i < t.len() && i < to {
@@ -105,7 +105,7 @@ pub fn cells<R: Print + Eprint>(rt: &R, t: &[u32], from: usize, to: usize, led: 
 }
 
 // Writes words, each with a number of a list; with `led`, a space comes first.
-pub fn named<R: Print + Eprint>(rt: &R, names: &[u8], list: &[u64], led: bool) {
+pub fn named(rt: &HostRuntime, names: &[u8], list: &[u64], led: bool) {
     let mut k = 0;
     while k < list.len() {
         gap(rt, led || 0 < k);

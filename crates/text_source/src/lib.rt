@@ -83,18 +83,18 @@ fn guessed(value: &[u8]) -> Shape {
 }
 
 // A byte after a backslash.
-fn escaped(rt: &(impl Print + Eprint), o: Out, b: u8) -> Out {
+fn escaped(rt: &HostRuntime, o: Out, b: u8) -> Out {
     out::byte(rt, out::byte(rt, o, b'\\'), b)
 }
 
 // A byte as two hexadecimal digits after `\x`.
-fn escaped_hex(rt: &(impl Print + Eprint), o: Out, b: u8) -> Out {
+fn escaped_hex(rt: &HostRuntime, o: Out, b: u8) -> Out {
     out::hex_byte(rt, escaped(rt, o, b'x'), b)
 }
 
 // A byte 0 inside a string, before another byte. Before an octal digit it has three digits, because it would otherwise mean
 // another byte.
-fn zero(rt: &(impl Print + Eprint), o: Out, next: u8) -> Out {
+fn zero(rt: &HostRuntime, o: Out, next: u8) -> Out {
     let short = escaped(rt, o, b'0');
     if b'0' <= next && next <= b'7' {
         return out::byte(rt, out::byte(rt, short, b'0'), b'0');
@@ -103,7 +103,7 @@ fn zero(rt: &(impl Print + Eprint), o: Out, next: u8) -> Out {
 }
 
 // A byte of a string, before another byte. Of a value that is strings, no byte gets to the last line.
-fn character(rt: &(impl Print + Eprint), o: Out, b: u8, next: u8) -> Out {
+fn character(rt: &HostRuntime, o: Out, b: u8, next: u8) -> Out {
     if b == 0 {
         return zero(rt, o, next);
     }
@@ -118,7 +118,7 @@ fn character(rt: &(impl Print + Eprint), o: Out, b: u8, next: u8) -> Out {
 }
 
 // Strings, in quotes, without the last 0. The first test of the loop keeps the sum from wrapping.
-fn text(rt: &(impl Print + Eprint), mut o: Out, value: &[u8]) -> Out {
+fn text(rt: &HostRuntime, mut o: Out, value: &[u8]) -> Out {
     o = out::byte(rt, o, b'"');
     let mut i = 0;
     while i < value.len() && i + 1 < value.len() {
@@ -129,7 +129,7 @@ fn text(rt: &(impl Print + Eprint), mut o: Out, value: &[u8]) -> Out {
 }
 
 // A space, except before the first of several.
-fn spaced(rt: &(impl Print + Eprint), o: Out, first: bool) -> Out {
+fn spaced(rt: &HostRuntime, o: Out, first: bool) -> Out {
     if first {
         return o;
     }
@@ -137,7 +137,7 @@ fn spaced(rt: &(impl Print + Eprint), o: Out, first: bool) -> Out {
 }
 
 // A number in hexadecimal after `0x`, of at least so many digits.
-pub fn number(rt: &(impl Print + Eprint), o: Out, n: u64, width: usize) -> Out {
+pub fn number(rt: &HostRuntime, o: Out, n: u64, width: usize) -> Out {
     out::hex(rt, out::byte(rt, out::byte(rt, o, b'0'), b'x'), n, width)
 }
 
@@ -147,7 +147,7 @@ fn joined(n: u64, b: u8) -> u64 {
 }
 
 // Numbers of 4 bytes, in angle brackets.
-fn cells(rt: &(impl Print + Eprint), mut o: Out, value: &[u8]) -> Out {
+fn cells(rt: &HostRuntime, mut o: Out, value: &[u8]) -> Out {
     o = out::byte(rt, o, b'<');
     let mut n: u64 = 0;
     let mut i: usize = 0;
@@ -162,7 +162,7 @@ fn cells(rt: &(impl Print + Eprint), mut o: Out, value: &[u8]) -> Out {
 }
 
 // Bytes, in square brackets.
-fn bytes(rt: &(impl Print + Eprint), mut o: Out, value: &[u8]) -> Out {
+fn bytes(rt: &HostRuntime, mut o: Out, value: &[u8]) -> Out {
     o = out::byte(rt, o, b'[');
     let mut i = 0;
     while i < value.len() {
@@ -173,7 +173,7 @@ fn bytes(rt: &(impl Print + Eprint), mut o: Out, value: &[u8]) -> Out {
 }
 
 // A value that is not empty.
-fn shaped(rt: &(impl Print + Eprint), o: Out, value: &[u8]) -> Out {
+fn shaped(rt: &HostRuntime, o: Out, value: &[u8]) -> Out {
     let s = guessed(value);
     match s {
         Shape::Text => text(rt, o, value),
@@ -183,7 +183,7 @@ fn shaped(rt: &(impl Print + Eprint), o: Out, value: &[u8]) -> Out {
 }
 
 // What follows the name of a property: nothing for an empty value.
-pub fn value(rt: &(impl Print + Eprint), o: Out, value: &[u8]) -> Out {
+pub fn value(rt: &HostRuntime, o: Out, value: &[u8]) -> Out {
     if value.len() == 0 {
         return o;
     }
@@ -191,7 +191,7 @@ pub fn value(rt: &(impl Print + Eprint), o: Out, value: &[u8]) -> Out {
 }
 
 // A byte of a name.
-fn name_byte(rt: &(impl Print + Eprint), o: Out, b: u8) -> Out {
+fn name_byte(rt: &HostRuntime, o: Out, b: u8) -> Out {
     if in_name(b) {
         return out::byte(rt, o, b);
     }
@@ -199,7 +199,7 @@ fn name_byte(rt: &(impl Print + Eprint), o: Out, b: u8) -> Out {
 }
 
 // A name. A byte that no source allows there is escaped, so that a name cannot look like something else.
-pub fn name(rt: &(impl Print + Eprint), mut o: Out, name: &[u8]) -> Out {
+pub fn name(rt: &HostRuntime, mut o: Out, name: &[u8]) -> Out {
     let mut i = 0;
     while i < name.len() {
         o = name_byte(rt, o, name[i]);
@@ -209,7 +209,7 @@ pub fn name(rt: &(impl Print + Eprint), mut o: Out, name: &[u8]) -> Out {
 }
 
 // The name of a node; an empty one is `/`.
-pub fn node_name(rt: &(impl Print + Eprint), o: Out, node: &[u8]) -> Out {
+pub fn node_name(rt: &HostRuntime, o: Out, node: &[u8]) -> Out {
     if node.len() == 0 {
         return out::byte(rt, o, b'/');
     }
@@ -217,7 +217,7 @@ pub fn node_name(rt: &(impl Print + Eprint), o: Out, node: &[u8]) -> Out {
 }
 
 // Tabs in front of a line.
-pub fn indent(rt: &(impl Print + Eprint), mut o: Out, depth: usize) -> Out {
+pub fn indent(rt: &HostRuntime, mut o: Out, depth: usize) -> Out {
     let mut left = depth;
     while 0 < left {
         o = out::byte(rt, o, b'\t');

@@ -16,12 +16,7 @@ pub fn room() -> [u8; 1_048_576]
 
 // Reads standard input to its end, and returns how many bytes it has. If it cannot be read or fills the buffer, the message for
 // this is written, and the whole length is returned.
-pub fn read<R: Print + Eprint + Input>(
-    rt: &R,
-    buffer: &mut [u8],
-    unreadable: &[u8],
-    too_long: &[u8],
-) -> usize
+pub fn read(rt: &HostRuntime, buffer: &mut [u8], unreadable: &[u8], too_long: &[u8]) -> usize
     ensures { IsPrefixLen result buffer.new }
 {
     let mut reader = rt.reader();

@@ -16,24 +16,16 @@ pub struct Out {
     pub whole: bool,
 }
 
-// Writes bytes to standard error, which takes text: bytes that are no UTF-8 are not written.
-fn write_text<R: Eprint>(rt: &R, bytes: &[u8]) -> bool {
-    match str::from_utf8(bytes) {
-        Ok(text) => rt.eprint(text).is_ok(),
-        Err(_) => false,
-    }
-}
-
 // Writes bytes at once, and returns whether all were written.
-pub fn write_all<R: Print + Eprint>(rt: &R, stream: Stream, bytes: &[u8]) -> bool {
+pub fn write_all(rt: &HostRuntime, stream: Stream, bytes: &[u8]) -> bool {
     match stream {
         Stream::Stdout => rt.write_all(bytes).is_ok(),
-        Stream::Stderr => write_text(rt, bytes),
+        Stream::Stderr => rt.stderr().write_all(bytes).is_ok(),
     }
 }
 
 // Writes a number in decimal at once, and returns whether all of it was written.
-pub fn print_decimal<R: Print + Eprint>(rt: &R, stream: Stream, n: u64) -> bool {
+pub fn print_decimal(rt: &HostRuntime, stream: Stream, n: u64) -> bool {
     let mut digits = [0; 20];
     let k = crate::decimal_digits(n, &mut digits);
     write_all(rt, stream, &digits[..k])
@@ -50,14 +42,14 @@ pub fn to(stream: Stream) -> Out {
 }
 
 // Writes what there is, and returns whether all was written so far.
-pub fn flush<R: Print + Eprint>(rt: &R, o: Out) -> bool {
+pub fn flush(rt: &HostRuntime, o: Out) -> bool {
     let text = o.text;
     let written = write_all(rt, o.stream, crate::part(&text, 0, o.used));
     o.whole && written
 }
 
 // One byte more; a full text is written first.
-pub fn byte<R: Print + Eprint>(rt: &R, mut o: Out, b: u8) -> Out {
+pub fn byte(rt: &HostRuntime, mut o: Out, b: u8) -> Out {
     let used = o.used;
     if used < 512 {
         o.text[used] = b;
@@ -71,7 +63,7 @@ pub fn byte<R: Print + Eprint>(rt: &R, mut o: Out, b: u8) -> Out {
 }
 
 // Bytes as they are.
-pub fn text<R: Print + Eprint>(rt: &R, mut o: Out, s: &[u8]) -> Out {
+pub fn text(rt: &HostRuntime, mut o: Out, s: &[u8]) -> Out {
     let mut i = 0;
     while i < s.len() {
         o = byte(rt, o, s[i]);
@@ -81,20 +73,20 @@ pub fn text<R: Print + Eprint>(rt: &R, mut o: Out, s: &[u8]) -> Out {
 }
 
 // A number in decimal.
-pub fn decimal<R: Print + Eprint>(rt: &R, o: Out, n: u64) -> Out {
+pub fn decimal(rt: &HostRuntime, o: Out, n: u64) -> Out {
     let mut digits = [0; 20];
     let k = crate::decimal_digits(n, &mut digits);
     text(rt, o, &digits[..k])
 }
 
 // A number in hexadecimal, of at least so many digits.
-pub fn hex<R: Print + Eprint>(rt: &R, o: Out, n: u64, width: usize) -> Out {
+pub fn hex(rt: &HostRuntime, o: Out, n: u64, width: usize) -> Out {
     let mut digits = [0; 16];
     let k = crate::hex_digits(n, width, &mut digits);
     text(rt, o, &digits[..k])
 }
 
 // A byte in two hexadecimal digits.
-pub fn hex_byte<R: Print + Eprint>(rt: &R, o: Out, b: u8) -> Out {
+pub fn hex_byte(rt: &HostRuntime, o: Out, b: u8) -> Out {
     hex(rt, o, b as u64, 2)
 }

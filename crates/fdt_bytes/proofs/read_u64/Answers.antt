@@ -1,4 +1,4 @@
--- `read_u64` meets its contract: it joins two words (`two-words`).
+-- `read_u64` meets its contract: it joins two words (`two_words`).
 use mathlib.Core.Path.{sym}
 use Rattle.fdt_bytes.proofs.BigEndian.{two_words}
 use Rattle.fdt_bytes.proofs.read_u64.Goals as goal

@@ -18,10 +18,10 @@ pub put_finish-requires : goal.put_finish-requires
 put_finish-requires c =
     let f = (finish-fits _ _ _ (sym c.finish_tests-answer.ensures ∙ accepts-done _ ((sym c.accepted.ensures ∙ c.if-not-accepted.false)))) in
     record {
-      reservations_bound = f.started;
-      strings_used_bound = omega (arith, f.room, f.small);
-      strings_used_in_bounds = omega (arith, f.room, f.within);
-      strings_used_in_bounds_2 = f.stored;
+      started = f.started;
+      total = omega (arith, f.room, f.small);
+      room = omega (arith, f.room, f.within);
+      strings_lent = f.stored;
     }
 
 pub after_finish-requires : goal.after_finish-requires

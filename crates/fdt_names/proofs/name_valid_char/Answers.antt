@@ -1,4 +1,4 @@
--- `name_valid_char` meets its contract: its three tests are those of `nameByte`.
+-- `name_valid_char` meets its contract: its three tests are those of `name_byte`.
 use Rattle.fdt_names.specs.Names.{digit, name_byte}
 use Rattle.fdt_names.proofs.name_valid_char.Goals as goal
 

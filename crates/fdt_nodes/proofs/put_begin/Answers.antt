@@ -26,7 +26,7 @@ slice_bounds-align-start c = omega (arith, begin_parts c.args.name.now, padding-
 pub align-requires : goal.align-requires
 align-requires c = record {
   alignment_nonzero = search rules;
-  len_in_bounds = simp (length-take, length-drop) (omega (arith, begin_parts c.args.name.now, padding-after_word (length c.args.name.now + 1), c.requires));
+  room = simp (length-take, length-drop) (omega (arith, begin_parts c.args.name.now, padding-after_word (length c.args.name.now + 1), c.requires));
 }
 
 pub returns : goal.returns

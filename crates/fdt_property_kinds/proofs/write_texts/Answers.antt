@@ -12,7 +12,7 @@ pub texts_at-requires : goal.texts_at-requires
 texts_at-requires c =
     let a = c.args in
     let t = texts_fit (c.property_placeholder-placed.ensures _ (of_texts a.joined.now a.lengths.now c.sums_to.ensures c.has_zero.ensures)) (not-false _ c.if-not-placed.false) in
-    record { lengths_value = t.0; lengths_in_bounds = t.1 }
+    record { lengths_sum = t.0; room = t.1 }
 
 pub returns : goal.returns
 unfolding value_bytes

@@ -3,4 +3,4 @@ use Rattle.std.proofs.Common.{◌-◌}
 use Rattle.cmd_read.proofs.entries.all.Given as goal
 
 abbrev pub decreases-loop-n : goal.decreases-loop-n
-decreases-loop-n g l = l.entries - l.n
+decreases-loop-n l = l.entries - l.n

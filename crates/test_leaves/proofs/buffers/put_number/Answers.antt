@@ -3,6 +3,6 @@ use Rattle.std.proofs.Common.{rules}
 use Rattle.fdt_bytes.specs.Padding.{padding}
 use Rattle.test_leaves.proofs.buffers.put_number.Goals as goal
 
-pub align-requires-clause-len_in_bounds : goal.align-requires-clause-len_in_bounds
+pub align-requires-clause-room : goal.align-requires-clause-room
 unfolding padding
-align-requires-clause-len_in_bounds c = search rules
+align-requires-clause-room c = search rules

@@ -3,7 +3,7 @@ use Rattle.std.proofs.Common.{◌≤◌, ◌-◌, length}
 use Rattle.test_leaves.proofs.cases.each.Given as goal
 
 abbrev pub invariant-loop-start : goal.invariant-loop-start
-invariant-loop-start g l = l.start ≤ length l.lines
+invariant-loop-start l = l.start ≤ length l.lines
 
 abbrev pub decreases-loop-start : goal.decreases-loop-start
-decreases-loop-start g l = length l.lines - l.start
+decreases-loop-start l = length l.lines - l.start

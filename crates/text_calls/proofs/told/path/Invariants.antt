@@ -3,4 +3,4 @@ use Rattle.std.proofs.Common.{◌-◌}
 use Rattle.text_calls.proofs.told.path.Given as goal
 
 abbrev pub decreases-loop-k : goal.decreases-loop-k
-decreases-loop-k g l = l.depth - l.k
+decreases-loop-k l = l.depth - l.k

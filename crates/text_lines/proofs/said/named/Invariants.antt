@@ -3,4 +3,4 @@ use Rattle.std.proofs.Common.{◌-◌, length}
 use Rattle.text_lines.proofs.said.named.Given as goal
 
 abbrev pub decreases-loop-k : goal.decreases-loop-k
-decreases-loop-k g l = length l.list - l.k
+decreases-loop-k l = length l.list - l.k
