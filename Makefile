@@ -48,7 +48,7 @@ outside:
 	@tools/outside $(RUNS)
 	@tools/outside-reader $(RUNS)
 
-# ROUNDS: how many rounds. Both writers are built for this machine.
+# ROUNDS: how many rounds.
 bench:
 	@tools/bench $(ROUNDS)
 

@@ -3,8 +3,8 @@
  *
  * Link with libgeirovund.a. Its functions are proved: for every argument that keeps the promises below they return,
  * and their answer and every byte that they write is determined. They use no heap and no global memory, and need
- * nothing of the C library except memcpy, memmove, memset, memcmp and bcmp. rt, which proves and compiles them, itself
- * vouches only for the archive for x86-64: on another processor it is compiled from the module that rt compiles.
+ * nothing of the C library except memcpy, memmove, memset, memcmp and bcmp. The archive is for x86-64, as rt is, which
+ * proves and compiles them.
  *
  *     static uint8_t blob[4096], strings[512];
  *     static uint32_t phandles[16];
@@ -34,10 +34,10 @@
  * until the blob is finished. If you do not, the call may be refused (17), or the blob is not what the calls describe;
  * it never reads or writes outside what is lent. The buffers need not be initialised.
  *
- * For boot code: the archive is compiled for programs under Linux. It uses vector registers and unaligned access:
- * enable both before the first call. On x86-64 it also uses the red zone: an interrupt must leave the 128 bytes below
- * the stack pointer alone. A call takes less than 1,500 bytes of stack, and what memset and the like take (measured in
- * the code for x86-64 and AArch64, not proved).
+ * For boot code: the archive is compiled for programs under Linux, for x86-64-v2, which has SSE4.2. It uses vector
+ * registers and unaligned access: enable both before the first call. It also uses the red zone: an interrupt must leave
+ * the 128 bytes below the stack pointer alone. A call takes less than 1,500 bytes of stack, and what memset and the like
+ * take (measured in the code, not proved).
  */
 #ifndef GEIROVUND_H
 #define GEIROVUND_H
