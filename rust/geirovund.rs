@@ -13,7 +13,7 @@
 //! mod geirovund;
 //! ```
 //!
-//! It needs Rust 1.82 or newer and a 64-bit processor. A program for vm-fdt changes its `use` line and its buffers:
+//! It needs Rust 1.82 or newer and x86-64. A program for vm-fdt changes its `use` line and its buffers:
 //!
 //! ```ignore
 //! let (mut blob, mut strings, mut phandles) = ([0; 4096], [0; 512], [0; 16]);
