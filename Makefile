@@ -29,7 +29,7 @@ test: steps
 	@$(if $(shell cat build/failed 2>/dev/null),$(error make test: failed: $(shell cat build/failed)),:)
 
 steps:
-	@rm -f build/failed
+	@mkdir -p build && : >build/failed
 	@tools/test build/failed || test -s build/failed
 
 # The writer for C and Rust.
