@@ -19,6 +19,7 @@ help:
 	@echo 'tools/test-archive -h    test the library for C and Rust'
 	@echo 'tools/promises -h        check that everything that docs/PROMISES.md cites exists'
 	@echo 'tools/moved -h           list what changed between two git revisions'
+	@echo 'tools/twins -h           list functions that differ only in numbers, their types and names'
 	@echo 'tools/check-time -h      print how long the gate takes, crate by crate'
 
 demo:
