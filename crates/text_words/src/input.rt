@@ -1,53 +1,32 @@
 // Standard input, read whole.
-ghost use Rattle.std.specs.Prelude.{◌≡◌, ◌≤◌, length};
-ghost use Rattle.std.specs.Counts.{IsPrefixLen};
+ghost use Rattle.std.specs.Prelude.{◌<◌, vec_len, IfOk};
 
-use crate::out;
-use crate::out::Stream;
+use std::alloc::AllocError;
 use std::io::Read;
 
-// Room for a list of lines, and one byte more. The length is stated, so that a proof that lends the array does not count its
-// elements.
-pub fn room() -> [u8; 1_048_576]
-    ensures { 1048576 ≡ length result }
-{
-    [0; 1_048_576]
+// Why an input is not taken.
+#[derive(Clone, Copy, PartialEq, Eq, Debug)]
+pub enum Refused {
+    Unreadable,
+    TooLong,
 }
 
-// Reads standard input to its end, and returns how many bytes it has. If it cannot be read or fills the buffer, the message for
-// this is written, and the whole length is returned.
-pub fn read(rt: &HostRuntime, buffer: &mut [u8], unreadable: &[u8], too_long: &[u8]) -> usize
-    ensures { IsPrefixLen result buffer.new }
+// Reads standard input to its end, if it has fewer than `limit` bytes.
+pub fn read<R: Input + AllocGlobal>(rt: &R, limit: usize) -> Result<Vec<u8>, Refused>
+    ensures { IfOk result (λ v. vec_len v < limit) }
 {
-    let mut reader = rt.reader();
-    let mut n = 0;
-    while n < buffer.len() {
-        match reader.read(&mut buffer[n..]) {
-            Ok(0) => return n,
-            Ok(more) => n += more,
-            Err(_) => {
-                out::write_all(rt, Stream::Stderr, unreadable);
-                return buffer.len();
-            }
-        }
+    let mut input = Vec::new(rt.alloc());
+    match rt.reader().take(limit as u64).read_to_end(&mut input) {
+        Ok(_) if input.len() < limit => Ok(input),
+        Ok(_) => Err(Refused::TooLong),
+        Err(_) => Err(Refused::Unreadable),
     }
-    out::write_all(rt, Stream::Stderr, too_long);
-    n
 }
 
-// Reads standard input until a buffer is full, the input ends or cannot be read, and returns how many bytes were put into the front
-// of the buffer.
-pub fn read_full<R: Input>(rt: &R, buffer: &mut [u8]) -> usize
-    ensures { IsPrefixLen result buffer.new }
-{
-    let mut reader = rt.reader();
-    let mut n = 0;
-    while n < buffer.len() {
-        match reader.read(&mut buffer[n..]) {
-            Ok(0) => return n,
-            Ok(more) => n += more,
-            Err(_) => return n,
-        }
-    }
-    n
+// Reads standard input until it ends, cannot be read further or gave `most` bytes. There is room for one byte more, so that the
+// reading itself needs no memory.
+pub fn read_full<R: Input + AllocGlobal>(rt: &R, most: usize) -> Result<Vec<u8>, AllocError> {
+    let mut input = Vec::with_capacity(rt.alloc(), most.saturating_add(1))?;
+    let _ = rt.reader().take(most as u64).read_to_end(&mut input);
+    Ok(input)
 }

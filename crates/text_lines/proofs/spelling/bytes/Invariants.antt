@@ -1,9 +1,0 @@
--- `spelling::bytes` counts the front of the buffer, and ends: each turn comes nearer to the end of the word.
-use Rattle.std.proofs.Common.{◌≡◌, ◌-◌, length}
-use Rattle.text_lines.proofs.spelling.bytes.Given as goal
-
-abbrev pub invariant-loop-i : goal.invariant-loop-i
-invariant-loop-i l = length l.out ≡ length l.initial.out
-
-abbrev pub decreases-loop-i : goal.decreases-loop-i
-decreases-loop-i l = length l.word - l.i
