@@ -1,6 +1,6 @@
 -- What every call with a record tests first (document 01, "Order of tests": 18, 17), by what the call is lent.
 use Rattle.std.specs.Prelude.{List, [], ◌∷◌, ◌++◌, ℕ}
-use Rattle.fdt_record.specs.declared.Answer.TheVariants.{Finished, Misfit}
+use Rattle.fdt_record.specs.declared.Error.TheVariants.{Finished, Misfit}
 use Rattle.fdt_record.specs.declared.Record.{Record}
 use Rattle.fdt_record.specs.Misfits.{misfit_record, misfit_blob, misfit_strings}
 use Rattle.fdt_record.specs.Rows.{Row, ◌⇒◌}
