@@ -4,10 +4,22 @@
 mod buffers;
 mod cases;
 mod strings;
-mod tests;
 
-fn main(rt: HostRuntime) {
-    let mut input = text_words::large_buffer();
-    let n = text_words::input::read_full(&rt, &mut input);
-    cases::each(&rt, &input[..n]);
+use std::io;
+use std::io::{BufWriter, Write};
+use text_lines::said;
+
+// How many bytes of the cases are read.
+const MOST: usize = 65_536;
+
+// Runs each case.
+fn run(rt: &HostRuntime) -> io::Result<()> {
+    let input = text_words::input::read_full(rt, MOST)?;
+    let mut out = BufWriter::new(rt.alloc(), io::writer(rt))?;
+    cases::each(rt.alloc(), &mut out, &input)?;
+    out.flush()
+}
+
+fn main(rt: HostRuntime) -> io::Result<()> {
+    said::ended(run(&rt))
 }

@@ -1,7 +1,10 @@
 // Parts of a line, written out.
+ghost use Rattle.std.specs.Prelude.{◌≡◌, IfErr};
+ghost use Rattle.std.specs.IoError.{error_kind};
+
 use std::fmt::Display;
 use std::io;
-use std::io::Write;
+use std::io::{ErrorKind, Write};
 
 // How bytes are written: as a word spells them or in two digits each, with one space before all of them; or in two digits
 // each, with a space before every fourth or before each.
@@ -65,4 +68,14 @@ pub fn named(out: &mut impl Write, names: &[&str], list: &[u64], led: bool) -> i
         write!(out, "{name} {n}")?;
     }
     Ok(())
+}
+
+// What a program ends with: output that cannot be written is left out, and only missing memory is an error.
+pub fn ended(written: io::Result<()>) -> io::Result<()>
+    ensures { IfErr result (λ e. error_kind e ≡ ErrorKind.OutOfMemory) }
+{
+    match written {
+        Err(e) if e.kind() == ErrorKind::OutOfMemory => Err(e),
+        _ => Ok(()),
+    }
 }
