@@ -1,7 +1,7 @@
 -- Laws of a begin: its size, its three writes as one, what an accepted one passed, and exactly when each answer is given.
 use mathlib.Core.Path.{◌≡◌, refl, sym, ap, ◌∙◌}
 use mathlib.Core.List.{List, ◌++◌}
-use mathlib.Core.Bool.{true, false}
+use mathlib.Core.Bool.{false}
 use Prim.Native.Nat.{ℕ, ◌+◌, ◌≤◌, ◌<◌}
 use native.Mathlib.Omega.{arith}
 use borrow.Author.Tests.{leb-false}
@@ -16,16 +16,18 @@ use Rattle.fdt_strings.proofs.Entries.{length-entry}
 use Rattle.fdt_names.specs.Names.{has_zero}
 use Rattle.fdt_format.specs.Tokens.{begin_token, begin_bytes}
 use Rattle.fdt_format.proofs.Tokens.{length-begin}
-use Rattle.fdt_record.specs.declared.Answer.{Answer}
-use Rattle.fdt_record.specs.declared.Answer.TheVariants.{Done}
+use Rattle.std.specs.Prelude.{Ok, Err}
+use Rattle.fdt_record.specs.declared.Error.{Error}
 use Rattle.fdt_record.specs.declared.Record.{Record}
-use Rattle.fdt_record.specs.Answers.{accepts, upon}
+use Rattle.fdt_record.specs.Answers.{Answer, Done, giving, accepts, upon}
+use Rattle.fdt_record.proofs.Answers.{upon-done, upon-err}
 use Rattle.fdt_record.specs.Limits.{most_depth}
 use Rattle.fdt_record.specs.Tests.{alone_rows, blob_rows}
 use Rattle.fdt_record.proofs.Fits.{FitBlob, fit_blob, not_overfull}
-use Rattle.fdt_record.proofs.Rows.{all_answers, Refusals, ByName, by_name, Exactly, exactly}
-use Rattle.fdt_nodes.specs.declared.Begun.{Begun}
-use Rattle.fdt_nodes.specs.Begin.{begin_rows, begin_answer, begun_record, begin}
+use Rattle.fdt_record.proofs.Rows.{ByName, by_name, Exactly, exactly}
+use Rattle.fdt_record.specs.declared.Outcome.{Outcome}
+use Rattle.fdt_nodes.specs.declared.FdtWriterNode.{FdtWriterNode}
+use Rattle.fdt_nodes.specs.Begin.{begin_rows, begin_answer, begun_record, begin, begin_blob, BeginOutcome}
 
 -- the size of a begin, with its padding
 pub begin_parts : (name : List ℕ) → length (begin_bytes name) ≡ 4 + (length name + 1 + padding 4 (length name + 1))
@@ -50,15 +52,10 @@ put-begin name rest r₁ r₂ r₃ e₁ e₂ e₃ room =
     ∙ splice-three 0 4 (4 + (length name + 1)) word (entry name) (zeros k) rest (omega arith) (omega arith) (omega arith)
     ∙ ap (λ (j : ℕ). over (word ++ (entry name ++ zeros j)) rest) (padding-after_word (length name + 1) ∙ ap (padding 4) (sym m))
 
--- every answer of the rows is a refusal
-refusals : (w : Record) (lent : ℕ) (name : List ℕ) → Refusals (begin_rows w lent name)
-unfolding begin_rows blob_rows alone_rows all_answers Refusals accepts
-refusals w lent name = refl
-
 module _ (w : Record) (lent : ℕ) (name : List ℕ) where
   pub begin_exactly : Exactly (begin_rows w lent name) (begin_answer w lent name)
   unfolding begin_answer
-  begin_exactly = exactly (begin_rows w lent name) (refusals w lent name)
+  begin_exactly = exactly (begin_rows w lent name)
 
   -- what an accepted begin passed
   pub record BeginFits : Type 0 where
@@ -80,18 +77,20 @@ module _ (w : Record) (lent : ℕ) (name : List ℕ) where
       })
 
 -- What a begin gives, by its answer.
-module _ (w : Record) (blob name : List ℕ) (a : Answer) (told : a ≡ begin_answer w (length blob) name) where
-  gives : Answer → Begun
-  gives b = record {
-    answer = b;
-    handle = record { 0 = upon b (w.node_depth + 1) 0 };
-    after = upon b (begun_record w name) w;
+module _ (w : Record) (blob name : List ℕ) where
+  gives : Answer → Outcome FdtWriterNode
+  gives a = record { answer = giving a (record { 0 = w.node_depth + 1 }); after = upon a (begun_record w name) w }
+
+  pub begin_refused : {error : Error} → begin_answer w (length blob) name ≡ Err error → BeginOutcome w blob name (record { answer = Err error; after = w }) blob
+  unfolding begin begin_blob gives
+  begin_refused {error} e = record {
+    result = ap (λ (x : Record). record { answer = Err error; after = x }) (sym (upon-err {answer = Err error} _ _ refl)) ∙ ap gives (sym e);
+    bytes = sym (upon-err _ _ e);
   }
 
-  pub begin_gives_lem : accepts a ≡ true → (after : Record) → after ≡ begun_record w name → record { answer = a; handle = record { 0 = after.node_depth }; after = after } ≡ begin w blob name
-  unfolding begin begun_record gives
-  begin_gives_lem t after e = ap (λ (r : Record). record { answer = a; handle = record { 0 = r.node_depth }; after = r }) e ∙ sym (simp t) ∙ ap gives told
-
-  pub begin_nothing : accepts a ≡ false → record { answer = a; handle = record { 0 = 0 }; after = w } ≡ begin w blob name
-  unfolding begin gives
-  begin_nothing t = sym (simp t) ∙ ap gives told
+  pub begin_accepted : begin_answer w (length blob) name ≡ Done → (after : Record) → after ≡ begun_record w name → {bytes : List ℕ} → bytes ≡ splice w.blob_used (begin_bytes name) blob → BeginOutcome w blob name (record { answer = Ok (record { 0 = after.node_depth }); after = after }) bytes
+  unfolding begin begin_blob begun_record gives accepts
+  begin_accepted e after r b = record {
+    result = ap (λ (x : Record). record { answer = Ok (record { 0 = x.node_depth }); after = x }) r ∙ ap gives (sym e);
+    bytes = b ∙ sym (upon-done _ _ _ e);
+  }

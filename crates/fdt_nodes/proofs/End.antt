@@ -1,30 +1,31 @@
 -- Laws of an end: what an accepted one passed, and exactly when each answer is given.
-use mathlib.Core.Path.{◌≡◌, refl, sym, ap}
-use mathlib.Core.Bool.{true, not}
-use Prim.Native.Nat.{ℕ, ◌+◌, ◌-◌, ◌≤◌, ◌<◌}
+use mathlib.Core.Path.{◌≡◌, sym, ap}
+use mathlib.Core.Bool.{not}
+use Prim.Native.Nat.{ℕ, ◌+◌, ◌≤◌, ◌<◌}
 use native.Mathlib.Omega.{arith}
 use borrow.Author.Tests.{eqb-false}
 use lib.Dec.{eqb}
 use Rattle.fdt_format.proofs.Tokens.{length-end}
-use Rattle.fdt_record.specs.declared.Answer.TheVariants.{Done}
+use mathlib.Core.List.{List}
+use mathlib.Core.Path.{◌∙◌}
+use lib.ListN.{length}
+use Rattle.std.specs.Prelude.{Err}
+use Rattle.fdt_bytes.specs.Splice.{splice}
+use Rattle.fdt_format.specs.Tokens.{end_bytes}
+use Rattle.fdt_record.specs.declared.Error.{Error}
 use Rattle.fdt_record.specs.declared.Record.{Record}
-use Rattle.fdt_record.specs.Answers.{accepts}
-use Rattle.fdt_record.specs.Fields.{with_used_blob, with_depth, with_ended}
+use Rattle.fdt_record.specs.Answers.{Done}
+use Rattle.fdt_record.proofs.Answers.{upon-done, upon-err, outcome-accepted, outcome-refused}
 use Rattle.fdt_record.specs.Tests.{alone_rows, blob_rows}
 use Rattle.fdt_bytes.proofs.Tests.{neither}
 use Rattle.fdt_record.proofs.Fits.{FitBlob, fit_blob, not_overfull}
-use Rattle.fdt_record.proofs.Rows.{all_answers, Refusals, ByName, by_name, Exactly, exactly}
-use Rattle.fdt_nodes.specs.End.{end_rows, end_answer, ended_record}
-
--- every answer of the rows is a refusal
-refusals : (w : Record) (lent handle : ℕ) → Refusals (end_rows w lent handle)
-unfolding end_rows blob_rows alone_rows all_answers Refusals accepts
-refusals w lent handle = refl
+use Rattle.fdt_record.proofs.Rows.{ByName, by_name, Exactly, exactly}
+use Rattle.fdt_nodes.specs.End.{end_rows, end_answer, ended_record, end, end_blob, EndOutcome}
 
 module _ (w : Record) (lent handle : ℕ) where
   pub end_exactly : Exactly (end_rows w lent handle) (end_answer w lent handle)
   unfolding end_answer
-  end_exactly = exactly (end_rows w lent handle) (refusals w lent handle)
+  end_exactly = exactly (end_rows w lent handle)
 
   -- what an accepted end passed
   pub record EndFits : Type 0 where
@@ -44,8 +45,15 @@ module _ (w : Record) (lent handle : ℕ) where
         room = omega (arith, not_overfull (ended_record w) over, length-end);
       })
 
--- the record after an accepted end, with its 4 bytes used
-pub ended_record_lem : (w : Record) → with_ended true (with_depth (w.node_depth - 1) (with_used_blob (w.blob_used + 4) w)) ≡ ended_record w
-unfolding ended_record
-ended_record_lem w =
-    ap (λ (n : ℕ). with_ended true (with_depth (w.node_depth - 1) (with_used_blob (w.blob_used + n) w))) (sym length-end)
+-- What an end gives, by its answer.
+module _ (w : Record) (blob : List ℕ) (handle : ℕ) where
+  pub end_refused : {error : Error} → end_answer w (length blob) handle ≡ Err error → EndOutcome w blob handle (record { answer = Err error; after = w }) blob
+  unfolding end end_blob
+  end_refused e = record { result = outcome-refused _ _ e; bytes = sym (upon-err _ _ e) }
+
+  pub end_accepted : end_answer w (length blob) handle ≡ Done → (after : Record) → after ≡ ended_record w → {bytes : List ℕ} → bytes ≡ splice w.blob_used end_bytes blob → EndOutcome w blob handle (record { answer = Done; after = after }) bytes
+  unfolding end end_blob
+  end_accepted e after r b = record {
+    result = ap (λ (x : Record). record { answer = Done; after = x }) r ∙ outcome-accepted _ _ e;
+    bytes = b ∙ sym (upon-done _ _ _ e);
+  }

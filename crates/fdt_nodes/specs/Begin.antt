@@ -4,16 +4,16 @@ use Rattle.fdt_bytes.specs.Splice.{splice}
 use Rattle.fdt_names.specs.Grammar.{matches}
 use Rattle.fdt_names.specs.Names.{node_name, has_zero}
 use Rattle.fdt_format.specs.Tokens.{begin_bytes}
-use Rattle.fdt_record.specs.declared.Answer.{Answer}
-use Rattle.fdt_record.specs.declared.Answer.TheVariants.{NodeDepthTooLarge, InvalidString, InvalidNodeName, BlobRoom}
+use Rattle.fdt_record.specs.declared.Error.TheVariants.{NodeDepthTooLarge, InvalidString, InvalidNodeName, BlobRoom}
 use Rattle.fdt_record.specs.declared.Record.{Record}
-use Rattle.fdt_record.specs.Answers.{upon}
+use Rattle.fdt_record.specs.declared.Outcome.{Outcome}
+use Rattle.fdt_record.specs.Answers.{Answer, giving, upon}
 use Rattle.fdt_record.specs.Fields.{with_used_blob, with_start, with_depth, with_ended}
 use Rattle.fdt_record.specs.Limits.{most_depth}
 use Rattle.fdt_record.specs.Misfits.{overfull}
 use Rattle.fdt_record.specs.Rows.{Row, ◌⇒◌, first}
 use Rattle.fdt_record.specs.Tests.{blob_rows}
-use Rattle.fdt_nodes.specs.declared.Begun.{Begun}
+use Rattle.fdt_nodes.specs.declared.FdtWriterNode.{FdtWriterNode}
 
 -- the record after an accepted begin: its bytes are used, the node's properties start after them (document 02, request 4/14), the depth
 -- is one more, no node was ended last
@@ -36,11 +36,10 @@ begin_rows w lent name =
 unfoldable pub begin_answer : Record → ℕ → List ℕ → Answer
 begin_answer w lent name = first (begin_rows w lent name)
 
--- the answer, the handle (the depth just after the node began, 0 if refused) and the record
-unfoldable pub begin : Record → List ℕ → List ℕ → Begun
+-- the answer, with the handle if it is accepted (the depth just after the node began), and the record
+unfoldable pub begin : Record → List ℕ → List ℕ → Outcome FdtWriterNode
 begin w blob name = record {
-  answer = begin_answer w (length blob) name;
-  handle = record { 0 = upon (begin_answer w (length blob) name) (w.node_depth + 1) 0 };
+  answer = giving (begin_answer w (length blob) name) (record { 0 = w.node_depth + 1 });
   after = upon (begin_answer w (length blob) name) (begun_record w name) w;
 }
 
@@ -50,6 +49,6 @@ begin_blob w blob name =
     upon (begin_answer w (length blob) name) (splice w.blob_used (begin_bytes name) blob) blob
 
 -- the outcome of a call
-pub record BeginOutcome (w : Record) (blob name : List ℕ) (r : Begun) (after : List ℕ) : Type 0 where
+pub record BeginOutcome (w : Record) (blob name : List ℕ) (r : Outcome FdtWriterNode) (after : List ℕ) : Type 0 where
   pub result : r ≡ begin w blob name
   pub bytes : after ≡ begin_blob w blob name

@@ -2,11 +2,10 @@
 use Rattle.std.specs.Prelude.{◌≡◌, true, not, ◌||◌, List, [], ◌∷◌, ◌++◌, ℕ, ◌+◌, ◌-◌, eqb, length}
 use Rattle.fdt_bytes.specs.Splice.{splice}
 use Rattle.fdt_format.specs.Tokens.{end_bytes}
-use Rattle.fdt_record.specs.declared.Answer.{Answer}
-use Rattle.fdt_record.specs.declared.Answer.TheVariants.{OutOfOrderEndNode, BlobRoom}
+use Rattle.fdt_record.specs.declared.Error.TheVariants.{OutOfOrderEndNode, BlobRoom}
 use Rattle.fdt_record.specs.declared.Outcome.{Outcome}
 use Rattle.fdt_record.specs.declared.Record.{Record}
-use Rattle.fdt_record.specs.Answers.{upon}
+use Rattle.fdt_record.specs.Answers.{Answer, upon}
 use Rattle.fdt_record.specs.Fields.{with_used_blob, with_depth, with_ended}
 use Rattle.fdt_record.specs.Misfits.{overfull}
 use Rattle.fdt_record.specs.Rows.{Row, ◌⇒◌, first}
@@ -29,7 +28,7 @@ unfoldable pub end_answer : Record → ℕ → ℕ → Answer
 end_answer w lent handle = first (end_rows w lent handle)
 
 -- the answer and the record
-unfoldable pub end : Record → List ℕ → ℕ → Outcome
+unfoldable pub end : Record → List ℕ → ℕ → Outcome (Unit {0})
 end w blob handle = record {
   answer = end_answer w (length blob) handle;
   after = upon (end_answer w (length blob) handle) (ended_record w) w;
@@ -40,6 +39,6 @@ unfoldable pub end_blob : Record → List ℕ → ℕ → List ℕ
 end_blob w blob handle = upon (end_answer w (length blob) handle) (splice w.blob_used end_bytes blob) blob
 
 -- the outcome of a call
-pub record EndOutcome (w : Record) (blob : List ℕ) (handle : ℕ) (r : Outcome) (after : List ℕ) : Type 0 where
+pub record EndOutcome (w : Record) (blob : List ℕ) (handle : ℕ) (r : Outcome (Unit {0})) (after : List ℕ) : Type 0 where
   pub result : r ≡ end w blob handle
   pub bytes : after ≡ end_blob w blob handle

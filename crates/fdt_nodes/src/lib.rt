@@ -9,63 +9,55 @@ ghost use Rattle.fdt_nodes.specs.Begin.{begun_record, begin_answer, BeginOutcome
 ghost use Rattle.fdt_nodes.specs.End.{ended_record, end_answer, EndOutcome};
 
 use fdt_format::{FDT_BEGIN_NODE, FDT_END_NODE};
-use fdt_record::{Answer, Outcome, Record};
+use fdt_record::{Error, FDT_MAX_NODE_DEPTH, Outcome, Record};
 
 // A node that was begun: the depth just after it began; 0 is never valid.
 #[derive(Clone, Copy)]
 pub struct FdtWriterNode(pub usize);
 
-// What begin answers, with the node's handle and the new record.
-#[derive(Clone, Copy)]
-pub struct Begun {
-    pub answer: Answer,
-    pub handle: FdtWriterNode,
-    pub after: Record,
-}
-
 // How many bytes a node's beginning takes.
 fn begin_size(name: &[u8]) -> usize
     ensures { result ≡ length (begin_bytes name.now) }
 {
-    let stored = name.len() + 1;
-    4 + (stored + fdt_bytes::padding_of(stored, 4))
+    4 + fdt_bytes::round_up(name.len() + 1, 4)
 }
 
 // The record that an accepted begin leaves.
+#[tactic(auto, unfolding(crate::specs::Begin::begun_record))]
 fn after_begin(w: Record, name: &[u8]) -> Record
     requires blob_used_bound { w.blob_used ≤ blob_ceiling }
     requires node_depth_bound { w.node_depth ≤ most_depth }
     ensures { result ≡ begun_record w name.now }
 {
-    let mut after = w;
-    after.blob_used = w.blob_used + begin_size(name);
-    after.node_start = after.blob_used;
-    after.node_depth = w.node_depth + 1;
-    after.node_ended = false;
-    after
+    let blob_used = w.blob_used + begin_size(name);
+    Record {
+        blob_used,
+        node_start: blob_used,
+        node_depth: w.node_depth + 1,
+        node_ended: false,
+        ..w
+    }
 }
 
 // The tests of a begin, in their order.
-fn begin_tests(w: Record, lent: usize, name: &[u8]) -> Answer
+#[tactic(auto, unfolding(fdt_record::specs::Rows::first, fdt_record::specs::Tests::alone_rows, fdt_record::specs::Tests::blob_rows, crate::specs::Begin::begin_rows, crate::specs::Begin::begin_answer))]
+fn begin_tests(w: Record, lent: usize, name: &[u8]) -> Result<(), Error>
     ensures { result ≡ begin_answer w lent name.now }
 {
-    let answer = fdt_record::blob_tests(w, lent);
-    if !fdt_record::accepted(answer) {
-        return answer;
-    }
-    if fdt_record::FDT_MAX_NODE_DEPTH <= w.node_depth {
-        return Answer::NodeDepthTooLarge;
+    w.blob_tests(lent)?;
+    if FDT_MAX_NODE_DEPTH <= w.node_depth {
+        return Err(Error::NodeDepthTooLarge);
     }
     if fdt_names::has_zero(name) {
-        return Answer::InvalidString;
+        return Err(Error::InvalidString);
     }
     if !fdt_names::node_name_valid(name) {
-        return Answer::InvalidNodeName;
+        return Err(Error::InvalidNodeName);
     }
-    if fdt_record::overfull(after_begin(w, name)) {
-        return Answer::BlobRoom;
+    if after_begin(w, name).overfull() {
+        return Err(Error::BlobRoom);
     }
-    Answer::Done
+    Ok(())
 }
 
 // Writes a node's beginning to the front of the rest of the blob.
@@ -80,72 +72,70 @@ fn put_begin(rest: &mut [u8], name: &[u8])
 }
 
 // Begins a node: its bytes go into the rest of the blob, and its handle is the new depth.
-pub fn begin_node(w: Record, blob: &mut [u8], name: &[u8]) -> Begun
+#[tactic(auto, unfolding(crate::specs::Begin::begin, crate::specs::Begin::begin_blob))]
+pub fn begin_node(w: Record, blob: &mut [u8], name: &[u8]) -> Outcome<FdtWriterNode>
     ensures { BeginOutcome w blob.old name.now result blob.new }
 {
-    let answer = begin_tests(w, blob.len(), name);
-    if !fdt_record::accepted(answer) {
-        return Begun {
-            answer,
-            handle: FdtWriterNode(0),
+    if let Err(error) = begin_tests(w, blob.len(), name) {
+        return Outcome {
+            answer: Err(error),
             after: w,
         };
     }
     let used = w.blob_used;
     put_begin(&mut blob[used..], name);
     let after = after_begin(w, name);
-    Begun {
-        answer,
-        handle: FdtWriterNode(after.node_depth),
+    Outcome {
+        answer: Ok(FdtWriterNode(after.node_depth)),
         after,
     }
 }
 
 // The record that an accepted end leaves.
+#[tactic(auto, unfolding(crate::specs::End::ended_record))]
 fn after_end(w: Record) -> Record
     requires blob_used_bound { w.blob_used ≤ blob_ceiling }
     requires node_depth_nonzero { 0 < w.node_depth }
     ensures { result ≡ ended_record w }
 {
-    let mut after = w;
-    after.blob_used = w.blob_used + 4;
-    after.node_depth = w.node_depth - 1;
-    after.node_ended = true;
-    after
+    Record {
+        blob_used: w.blob_used + 4,
+        node_depth: w.node_depth - 1,
+        node_ended: true,
+        ..w
+    }
 }
 
 // The tests of an end, in their order.
-fn end_tests(w: Record, lent: usize, node: FdtWriterNode) -> Answer
+#[tactic(auto, unfolding(fdt_record::specs::Rows::first, fdt_record::specs::Tests::alone_rows, fdt_record::specs::Tests::blob_rows, crate::specs::End::end_rows, crate::specs::End::end_answer))]
+fn end_tests(w: Record, lent: usize, node: FdtWriterNode) -> Result<(), Error>
     ensures { result ≡ end_answer w lent node.0 }
 {
-    let answer = fdt_record::blob_tests(w, lent);
-    if !fdt_record::accepted(answer) {
-        return answer;
+    w.blob_tests(lent)?;
+    if node.0 != w.node_depth || w.node_depth == 0 {
+        return Err(Error::OutOfOrderEndNode);
     }
-    if node.0 != w.node_depth {
-        return Answer::OutOfOrderEndNode;
+    if after_end(w).overfull() {
+        return Err(Error::BlobRoom);
     }
-    if w.node_depth == 0 {
-        return Answer::OutOfOrderEndNode;
-    }
-    if fdt_record::overfull(after_end(w)) {
-        return Answer::BlobRoom;
-    }
-    Answer::Done
+    Ok(())
 }
 
 // Ends the node that is open at the handle's depth.
-pub fn end_node(w: Record, blob: &mut [u8], node: FdtWriterNode) -> Outcome
+#[tactic(auto, unfolding(crate::specs::End::end, crate::specs::End::end_blob))]
+pub fn end_node(w: Record, blob: &mut [u8], node: FdtWriterNode) -> Outcome<()>
     ensures { EndOutcome w blob.old node.0 result blob.new }
 {
-    let answer = end_tests(w, blob.len(), node);
-    if !fdt_record::accepted(answer) {
-        return Outcome { answer, after: w };
+    if let Err(error) = end_tests(w, blob.len(), node) {
+        return Outcome {
+            answer: Err(error),
+            after: w,
+        };
     }
     let used = w.blob_used;
     fdt_bytes::append_u32(&mut blob[used..], FDT_END_NODE);
     Outcome {
-        answer,
+        answer: Ok(()),
         after: after_end(w),
     }
 }

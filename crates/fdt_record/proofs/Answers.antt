@@ -4,6 +4,8 @@ use mathlib.Core.Bool.{Bool, true, false, cond, true≢false}
 use Rattle.std.specs.Prelude.{Result, Ok, Err}
 use Rattle.fdt_record.specs.declared.Error.{Error}
 use Rattle.fdt_record.specs.declared.Error.TheVariants.{PropertyBeforeBeginNode, PropertyAfterEndNode, PropertyValueTooLarge, TotalSizeTooLarge, InvalidString, OutOfOrderEndNode, UnclosedNode, InvalidMemoryReservation, OverlappingMemoryReservations, InvalidNodeName, InvalidPropertyName, NodeDepthTooLarge, DuplicatePhandle, BlobRoom, StringRoom, PhandleRoom, Misfit, Finished, TooManyReservations, DuplicateProperty}
+use Rattle.fdt_record.specs.declared.Outcome.{Outcome}
+use Rattle.fdt_record.specs.declared.Record.{Record}
 use Rattle.fdt_record.specs.Answers.{Answer, Done, giving, answer_of, number_of, accepts, upon}
 
 -- an error is no acceptance
@@ -68,3 +70,17 @@ module _ {T : Type 0} where
   pub answer-giving : (answer : Answer) (value : T) → answer_of (giving answer value) ≡ answer
   answer-giving (Ok tt) value = refl
   answer-giving (Err error) value = refl
+
+-- What a call gives by its answer, if it gives no value.
+module _ (accepted refused : Record) where
+  gives : Answer → Outcome (Unit {0})
+  gives a = record { answer = a; after = upon a accepted refused }
+
+  pub outcome-accepted : {answer : Answer} → answer ≡ Done → ◌≡◌ {A = Outcome (Unit {0})} (record { answer = Done; after = accepted }) (record { answer = answer; after = upon answer accepted refused })
+  unfolding gives accepts
+  outcome-accepted e = ap gives (sym e)
+
+  pub outcome-refused : {answer : Answer} {error : Error} → answer ≡ Err error → ◌≡◌ {A = Outcome (Unit {0})} (record { answer = Err error; after = refused }) (record { answer = answer; after = upon answer accepted refused })
+  unfolding gives
+  outcome-refused {error = error} e =
+      ap (λ (w : Record). record { answer = Err error; after = w }) (sym (upon-err {answer = Err error} accepted refused refl)) ∙ ap gives (sym e)
