@@ -1,30 +1,27 @@
 -- Laws of a finish: the lengths of what it writes, exactly when it is accepted or refused, and what an accepted one may rely on.
-use mathlib.Core.Path.{◌≡◌, refl, sym, ap, subst, ◌∙◌}
+use mathlib.Core.Path.{◌≡◌, refl, ap, ◌∙◌}
 use mathlib.Core.Bool.{Bool, true, false}
 use mathlib.Core.List.{List}
-use Prim.Native.Nat.{ℕ, ◌+◌, ◌*◌, ◌≤◌, ◌<◌}
-use native.Mathlib.Nat.{zero-add}
+use Prim.Native.Nat.{ℕ, ◌+◌, ◌≤◌}
 use native.Mathlib.Omega.{arith}
 use borrow.Author.Tests.{eqb-true, not-false}
 use lib.Dec.{eqb}
-use lib.ListN.{length, take, get_or, length-take}
+use lib.ListN.{length, take, length-take}
 use Rattle.fdt_bytes.specs.BigEndian.{big_endian, cell_bytes}
 use Rattle.fdt_bytes.specs.Splice.{over, splice}
 use Rattle.fdt_bytes.proofs.BigEndian.{length-big_endian}
-use Rattle.fdt_bytes.proofs.Cells.{Written, written-more}
 use Rattle.fdt_bytes.proofs.Splice.{length-splice, lent, splice-splice}
 use Rattle.fdt_header.specs.Header.{structure_start, header_words, header_bytes}
 use Rattle.fdt_format.specs.Tokens.{final_token, final_bytes}
 use Rattle.fdt_header.proofs.HeaderBytes.{length-header}
 use Rattle.fdt_format.proofs.Tokens.{length_final}
-use Rattle.fdt_record.specs.declared.Answer.TheVariants.{Done}
 use Rattle.fdt_record.specs.declared.Record.{Record}
-use Rattle.fdt_record.specs.Answers.{accepts, upon}
+use Rattle.fdt_record.specs.Answers.{Done, accepts, upon}
 use Rattle.fdt_record.specs.Limits.{blob_ceiling}
 use Rattle.fdt_record.specs.Tests.{alone_rows, blob_rows, strings_rows}
 use Rattle.fdt_record.proofs.Answers.{accepts-done, upon-done, upon-refused}
 use Rattle.fdt_record.proofs.Fits.{FitBlob, fit_blob, FitStrings, fit_strings, not_overfull}
-use Rattle.fdt_record.proofs.Rows.{all_answers, Refusals, ByName, by_name, Exactly, exactly}
+use Rattle.fdt_record.proofs.Rows.{ByName, by_name, Exactly, exactly}
 use Rattle.fdt_finish.specs.Finish.{used_strings, finish_rows, finish_answer, finished_record, finished_blob, finish_blob}
 
 -- word 9 and then the strings, into the rest of the blob
@@ -33,22 +30,10 @@ unfolding splice final_bytes
 put_final strings rest r₁ r₂ h e₁ e₂ =
     e₂ ∙ ap (splice 4 strings) e₁ ∙ splice-splice 0 4 (big_endian 4 final_token) strings rest (omega (arith, length-big_endian 4 final_token)) h
 
--- the word that is rewritten next
-pub word_more : {words before now after : List ℕ} {i : ℕ} → 4 * length words ≤ length before → Written 4 0 words before now i → i < length words → after ≡ splice (4 * i) (big_endian 4 (get_or words i 0)) now → Written 4 0 words before after (i + 1)
-word_more {words} {before} {now} {after} {i} room w h e =
-    let one = big_endian 4 (get_or words i 0) in
-    let put = lent (0 + 4 * i) one now _ (omega (arith, w.kept)) refl in
-    subst (λ (l : List ℕ). Written 4 0 words before l (i + 1)) (put ∙ ap (λ (n : ℕ). splice n one now) (zero-add (4 * i)) ∙ sym e)
-    (written-more (omega arith) w h refl)
-
 module _ (w : Record) (lent : ℕ) (strings : List ℕ) where
-  pub finish_refusals : Refusals (finish_rows w lent strings)
-  unfolding finish_rows strings_rows blob_rows alone_rows all_answers Refusals accepts
-  finish_refusals = refl
-
   pub finish_exactly : Exactly (finish_rows w lent strings) (finish_answer w lent strings)
   unfolding finish_answer
-  finish_exactly = exactly (finish_rows w lent strings) finish_refusals
+  finish_exactly = exactly (finish_rows w lent strings)
 
 -- what an accepted finish may rely on
 pub record Finishable (w : Record) (lent : ℕ) (strings : List ℕ) : Type 0 where

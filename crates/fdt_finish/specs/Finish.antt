@@ -3,11 +3,10 @@ use Rattle.std.specs.Prelude.{◌≡◌, true, not, List, [], ◌∷◌, ◌++�
 use Rattle.fdt_bytes.specs.Splice.{splice}
 use Rattle.fdt_header.specs.Header.{header_bytes}
 use Rattle.fdt_format.specs.Tokens.{final_bytes}
-use Rattle.fdt_record.specs.declared.Answer.{Answer}
-use Rattle.fdt_record.specs.declared.Answer.TheVariants.{UnclosedNode, BlobRoom}
+use Rattle.fdt_record.specs.declared.Error.TheVariants.{UnclosedNode, BlobRoom}
 use Rattle.fdt_record.specs.declared.Outcome.{Outcome}
 use Rattle.fdt_record.specs.declared.Record.{Record}
-use Rattle.fdt_record.specs.Answers.{upon}
+use Rattle.fdt_record.specs.Answers.{Answer, upon}
 use Rattle.fdt_record.specs.Fields.{with_used_blob, with_finished}
 use Rattle.fdt_record.specs.Misfits.{overfull}
 use Rattle.fdt_record.specs.Rows.{Row, ◌⇒◌, first}
@@ -40,7 +39,7 @@ finished_blob w blob strings =
     (splice w.blob_used (final_bytes (used_strings w strings)) blob)
 
 -- the answer and the record
-unfoldable pub finish : Record → ℕ → List ℕ → Outcome
+unfoldable pub finish : Record → ℕ → List ℕ → Outcome (Unit {0})
 finish w lent strings = record {
   answer = finish_answer w lent strings;
   after = upon (finish_answer w lent strings) (finished_record w) w;
@@ -51,6 +50,6 @@ unfoldable pub finish_blob : Record → List ℕ → List ℕ → List ℕ
 finish_blob w blob strings = upon (finish_answer w (length blob) strings) (finished_blob w blob strings) blob
 
 -- the outcome of a call
-pub record FinishOutcome (w : Record) (blob strings : List ℕ) (r : Outcome) (after : List ℕ) : Type 0 where
+pub record FinishOutcome (w : Record) (blob strings : List ℕ) (r : Outcome (Unit {0})) (after : List ℕ) : Type 0 where
   pub result : r ≡ finish w (length blob) strings
   pub bytes : after ≡ finish_blob w blob strings

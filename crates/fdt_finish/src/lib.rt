@@ -2,8 +2,7 @@
 #![tactic(auto)]
 
 ghost use Rattle.std.specs.Prelude.{◌≡◌, ◌+◌, ◌*◌, ◌≤◌, ◌<◌, ◌^◌, length};
-ghost use Rattle.fdt_bytes.specs.BigEndian.{cell_bytes};
-ghost use Rattle.fdt_bytes.specs.Splice.{over, splice};
+ghost use Rattle.fdt_bytes.specs.Splice.{over};
 ghost use Rattle.fdt_format.specs.Tokens.{final_bytes};
 ghost use Rattle.fdt_header.specs.Header.{structure_start};
 ghost use Rattle.fdt_finish.specs.Boot.{boot};
@@ -12,47 +11,53 @@ ghost use Rattle.fdt_finish.specs.Shown.{shown};
 
 use fdt_format::FDT_END;
 use fdt_header::Header;
-use fdt_record::{Answer, Outcome, Record};
+use fdt_record::{BLOB_CEILING, Error, Outcome, Record};
 
 // Sets the boot number.
-pub fn set_boot_cpuid_phys(w: Record, boot_cpuid_phys: u32) -> Outcome
+pub fn set_boot_cpuid_phys(w: Record, boot_cpuid_phys: u32) -> Outcome<()>
     ensures { result ≡ boot w boot_cpuid_phys }
 {
-    let answer = fdt_record::alone_tests(w);
-    if !fdt_record::accepted(answer) {
-        return Outcome { answer, after: w };
+    if let Err(error) = w.alone_tests() {
+        return Outcome {
+            answer: Err(error),
+            after: w,
+        };
     }
-    let mut after = w;
-    after.boot_cpuid_phys = boot_cpuid_phys;
-    Outcome { answer, after }
+    Outcome {
+        answer: Ok(()),
+        after: Record {
+            boot_cpuid_phys,
+            ..w
+        },
+    }
 }
 
 // The record that an accepted finish leaves.
+#[tactic(auto, unfolding(crate::specs::Finish::finished_record))]
 fn after_finish(w: Record) -> Record
     requires { w.blob_used + (4 + w.strings_used) < 2 ^ 64 }
     ensures { result ≡ finished_record w }
 {
-    let mut after = w;
-    after.blob_used = w.blob_used + (4 + w.strings_used);
-    after.finished = true;
-    after
+    Record {
+        blob_used: w.blob_used + (4 + w.strings_used),
+        finished: true,
+        ..w
+    }
 }
 
 // The tests of a finish, in their order.
-fn finish_tests(w: Record, lent: usize, strings: &[u8]) -> Answer
+#[tactic(auto, unfolding(fdt_record::specs::Rows::first, fdt_record::specs::Tests::alone_rows, fdt_record::specs::Tests::blob_rows, fdt_record::specs::Tests::strings_rows, crate::specs::Finish::finish_rows, crate::specs::Finish::finish_answer))]
+fn finish_tests(w: Record, lent: usize, strings: &[u8]) -> Result<(), Error>
     ensures { result ≡ finish_answer w lent strings.now }
 {
-    let answer = fdt_record::strings_tests(w, lent, strings);
-    if !fdt_record::accepted(answer) {
-        return answer;
-    }
+    w.strings_tests(lent, strings)?;
     if w.node_depth != 0 {
-        return Answer::UnclosedNode;
+        return Err(Error::UnclosedNode);
     }
-    if fdt_record::overfull(after_finish(w)) {
-        return Answer::BlobRoom;
+    if after_finish(w).overfull() {
+        return Err(Error::BlobRoom);
     }
-    Answer::Done
+    Ok(())
 }
 
 // Writes word 9 and the strings to the front of the rest of the blob.
@@ -62,18 +67,6 @@ fn put_final(rest: &mut [u8], strings: &[u8])
 {
     fdt_bytes::append_u32(rest, FDT_END);
     fdt_bytes::append_bytes(&mut rest[4..], strings);
-}
-
-// Rewrites the header, word by word.
-fn put_header(blob: &mut [u8], words: &[u32])
-    requires { 4 * length words.now ≤ length blob.old }
-    ensures { blob.new ≡ splice 0 (cell_bytes 4 words.now) blob.old }
-{
-    let mut i = 0;
-    while i < words.len() {
-        fdt_splice::update_u32(blob, 4 * i, words[i]);
-        i += 1;
-    }
 }
 
 // Writes word 9 and the used strings into the rest of the blob, and the header in front.
@@ -93,36 +86,35 @@ fn put_finish(w: Record, blob: &mut [u8], strings: &[u8])
         size_dt_strings: size as u32,
         boot_cpuid_phys: w.boot_cpuid_phys,
     };
-    let words = header.words();
-    put_header(blob, &words);
+    fdt_splice::cells_at(blob, 0, &header.words());
 }
 
 // Finishes a blob: word 9 and the strings go into the rest, and the header is rewritten.
-pub fn finish(w: Record, blob: &mut [u8], strings: &[u8]) -> Outcome
+pub fn finish(w: Record, blob: &mut [u8], strings: &[u8]) -> Outcome<()>
     ensures { FinishOutcome w blob.old strings.now result blob.new }
 {
-    let answer = finish_tests(w, blob.len(), strings);
-    if !fdt_record::accepted(answer) {
-        return Outcome { answer, after: w };
+    if let Err(error) = finish_tests(w, blob.len(), strings) {
+        return Outcome {
+            answer: Err(error),
+            after: w,
+        };
     }
     put_finish(w, blob, strings);
     Outcome {
-        answer,
+        answer: Ok(()),
         after: after_finish(w),
     }
 }
 
 // Shows the finished blob: the front of what is lent, or an empty part.
+#[tactic(auto, unfolding(crate::specs::Shown::showable, crate::specs::Shown::shown, fdt_record::specs::Limits::usable))]
 pub fn show(w: Record, blob: &[u8]) -> &[u8]
     ensures { result.now ≡ shown w blob.now }
 {
     let used = w.blob_used;
-    if w.finished {
-        if fdt_record::usable_length(fdt_record::BLOB_CEILING, blob.len()) == w.blob_room {
-            if used <= w.blob_room {
-                return &blob[..used];
-            }
-        }
+    let room = fdt_record::usable_length(BLOB_CEILING, blob.len());
+    if w.finished && room == w.blob_room && used <= room {
+        return &blob[..used];
     }
     &blob[..0]
 }

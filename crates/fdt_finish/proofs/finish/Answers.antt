@@ -1,22 +1,21 @@
--- `finish` meets its contract: where its tests are (sym what.before.accepted.ensures ∙ not-false _ what.if1.false) it writes fits, and otherwise nothing changes.
-use mathlib.Core.Path.{sym, ap, ◌∙◌}
-use native.Mathlib.Omega.{arith}
+-- `finish` meets its contract: where its tests are passed what it writes fits, and otherwise nothing changes.
+use Rattle.std.proofs.Common.{sym, ap, ◌∙◌, arith}
+use Rattle.fdt_record.specs.Answers.{Done}
 use Rattle.fdt_record.specs.declared.Record.{Record}
-use Rattle.fdt_record.proofs.Answers.{accepts-done, left-accepted, left-refused, outcome-accepted, outcome-refused}
+use Rattle.fdt_record.proofs.Answers.{upon-done, upon-err, outcome-accepted, outcome-refused}
 use Rattle.fdt_finish.specs.Finish.{finish, finish_blob}
 use Rattle.fdt_finish.proofs.Finishing.{finish-fits}
 use Rattle.fdt_finish.proofs.finish.Goals as goal
 
-pub returns-then-not-accepted : goal.returns-then-not-accepted
+pub returns-in-Err : goal.returns-in-Err
 unfolding finish finish_blob
-returns-then-not-accepted c =
-    let told = c.finish_tests-answer.ensures in
-    let t = sym c.accepted.ensures ∙ c.if-not-accepted.true in
-    record { result = outcome-refused _ _ told _ _ t; bytes = left-refused _ _ told _ _ t }
+returns-in-Err c =
+    let e = sym c.finish_tests.ensures ∙ c.in-Err.is in
+    record { result = outcome-refused _ _ e; bytes = sym (upon-err _ _ e) }
 
 pub put_finish-requires : goal.put_finish-requires
 put_finish-requires c =
-    let f = (finish-fits _ _ _ (sym c.finish_tests-answer.ensures ∙ accepts-done _ ((sym c.accepted.ensures ∙ c.if-not-accepted.false)))) in
+    let f = finish-fits _ _ _ (sym c.finish_tests.ensures ∙ c.in_default.is) in
     record {
       started = f.started;
       total = omega (arith, f.room, f.small);
@@ -25,13 +24,14 @@ put_finish-requires c =
     }
 
 pub after_finish-requires : goal.after_finish-requires
-after_finish-requires c = let f = (finish-fits _ _ _ (sym c.finish_tests-answer.ensures ∙ accepts-done _ ((sym c.accepted.ensures ∙ c.if-not-accepted.false)))) in omega (arith, f.room, f.small)
+after_finish-requires c =
+    let f = finish-fits _ _ _ (sym c.finish_tests.ensures ∙ c.in_default.is) in omega (arith, f.room, f.small)
 
 pub returns : goal.returns
 unfolding finish finish_blob
 returns c =
-    let told = c.finish_tests-answer.ensures in
+    let e = sym c.finish_tests.ensures ∙ c.in_default.is in
     record {
-      result = ap (λ (w : Record). record { answer = c.finish_tests-answer.result; after = w }) c.after_finish.ensures ∙ outcome-accepted _ _ told _ _ ((sym c.accepted.ensures ∙ c.if-not-accepted.false));
-      bytes = c.put_finish.ensures ∙ left-accepted _ _ told _ _ ((sym c.accepted.ensures ∙ c.if-not-accepted.false));
+      result = ap (λ (w : Record). record { answer = Done; after = w }) c.after_finish.ensures ∙ outcome-accepted _ _ e;
+      bytes = c.put_finish.ensures ∙ sym (upon-done _ _ _ e);
     }

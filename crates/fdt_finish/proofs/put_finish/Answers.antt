@@ -24,5 +24,5 @@ returns c =
     let a = c.args in
     finished_by_parts a.w a.blob.now a.strings.now
     (lent a.w.blob_used (final_bytes (used_strings a.w a.strings.now)) a.blob.now _ (omega (arith, c.requires)) c.put_final.ensures)
-    (c.words-words.ensures ∙ words_by_start a.w.reservations (a.w.blob_used + 4) a.w.strings_used a.w.boot_cpuid_phys c.structure_start.ensures)
-    c.put_header.ensures
+    (c.words.ensures ∙ words_by_start a.w.reservations (a.w.blob_used + 4) a.w.strings_used a.w.boot_cpuid_phys c.structure_start.ensures)
+    c.cells_at.ensures

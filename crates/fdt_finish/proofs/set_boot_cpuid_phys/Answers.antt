@@ -1,13 +1,13 @@
 -- `set_boot_cpuid_phys` meets its contract: a refusal leaves the record, and acceptance sets the number.
-use mathlib.Core.Path.{sym, ◌∙◌}
+use Rattle.std.proofs.Common.{sym, ◌∙◌}
 use Rattle.fdt_record.proofs.Answers.{outcome-accepted, outcome-refused}
 use Rattle.fdt_finish.specs.Boot.{boot_answer, boot}
 use Rattle.fdt_finish.proofs.set_boot_cpuid_phys.Goals as goal
 
-pub returns-then-not-accepted : goal.returns-then-not-accepted
+pub returns-in-Err : goal.returns-in-Err
 unfolding boot boot_answer
-returns-then-not-accepted c = outcome-refused _ _ c.alone_tests-answer.ensures _ _ (sym c.accepted.ensures ∙ c.if-not-accepted.true)
+returns-in-Err c = outcome-refused _ _ (sym c.alone_tests.ensures ∙ c.in-Err.is)
 
 pub returns : goal.returns
 unfolding boot boot_answer
-returns c = outcome-accepted _ _ c.alone_tests-answer.ensures _ _ (sym c.accepted.ensures ∙ c.if-not-accepted.false)
+returns c = outcome-accepted _ _ (sym c.alone_tests.ensures ∙ c.in_default.is)
