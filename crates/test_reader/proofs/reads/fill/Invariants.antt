@@ -1,6 +1,0 @@
--- `reads::fill` ends: each turn comes nearer to the end of the list.
-use Rattle.std.proofs.Common.{◌-◌, length}
-use Rattle.test_reader.proofs.reads.fill.Given as goal
-
-abbrev pub decreases-loop-i : goal.decreases-loop-i
-decreases-loop-i l = length l.list - l.i
