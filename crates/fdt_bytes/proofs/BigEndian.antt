@@ -2,16 +2,19 @@
 use mathlib.Core.Path.{◌≡◌, refl, sym, ap, ◌∙◌}
 use mathlib.Core.Bool.{Bool, true, false, ◌&&◌}
 use mathlib.Core.List.{List, [], ◌∷◌, ◌++◌, append_assoc, append-nil}
-use Prim.Native.Nat.{ℕ, zero, suc, ◌+◌, ◌*◌, ◌/◌, ◌%◌, ◌^◌, ◌≤◌, ◌<◌}
-use native.Mathlib.Nat.{add_comm, add-zero, add-suc, mul-suc, mul-zero, div-one, div-div-eq-div-mul, mod-one, mod-lt, mod-eq_of_lt, add-mul, mul_assoc, one-le-pow, pow-suc, pow-succ'}
+use Prim.Native.Nat.{ℕ, zero, suc, ◌+◌, ◌-◌, ◌*◌, ◌/◌, ◌%◌, ◌^◌, ◌≤◌, ◌<◌}
+use native.Mathlib.Nat.{add-zero, add-suc, mul-suc, mul-zero, div-one, div-div-eq-div-mul, mod-one, mod-lt, mod-eq_of_lt, add-mul, mul_assoc, one-le-pow, pow-suc, pow-succ'}
 use native.Mathlib.Numerals.{add-one}
 use native.Mathlib.Omega.{arith}
 use borrow.Author.Tests.{ltb-true, lt-ltb}
 use lib.Arith.{mod-mul, digits_div, digits_mod, digits_lt}
 use lib.Dec.{T, ltb, lit<}
 use lib.ListN.{length, take, drop, get_or, length-append, length-drop}
-use lib.Seq.{take-suc, take-add, drop-cons, drop-drop, length-take-le}
+use lib.Seq.{take-suc, take-add, take_all, drop-cons, drop-drop, length-take-le}
 use lib.Pow.{are_bytes, pow-add}
+use Rattle.std.specs.Int.{byte_at, byte_worth, bytes_high_first, sum_through}
+use Rattle.std.specs.List.{flat_map}
+use Rattle.std.proofs.lemmas.Grind.{flat_map-append}
 use Rattle.fdt_bytes.specs.BigEndian.{big_endian, from_big_endian, number_at, word_at, wide_at, cell_bytes}
 
 pub length-big_endian : (width v : ℕ) → length (big_endian width v) ≡ width
@@ -61,6 +64,20 @@ in_two_lem j (suc k) v =
     ∙ ap (λ (l : List ℕ). l ++ (v % 256 ∷ [])) (in_two_lem j k (v / 256))
     ∙ append_assoc (big_endian j (v / 256 / 256 ^ k)) (big_endian k (v / 256)) (v % 256 ∷ [])
     ∙ ap (λ (n : ℕ). big_endian j n ++ big_endian (suc k) v) q
+
+byte_at_lem : (k v : ℕ) → byte_at k v ≡ v / 256 ^ k % 256
+byte_at_lem zero v = sym (ap (λ (n : ℕ). n % 256) (div-one v))
+byte_at_lem (suc k) v = refl
+
+-- the standard library's bytes of a number, highest first
+pub high_first : (width v : ℕ) → bytes_high_first width v ≡ big_endian width v
+unfolding big_endian
+high_first zero v = refl
+high_first (suc k) v =
+    let s : suc k ≡ 1 + k = omega arith in
+    ap (λ (n : ℕ). n ∷ bytes_high_first k v) (byte_at_lem k v)
+    ∙ ap (λ (l : List ℕ). v / 256 ^ k % 256 ∷ l) (high_first k v)
+    ∙ sym (ap (λ (n : ℕ). big_endian n v) s ∙ in_two_lem 1 k v)
 
 -- digits above the width make no difference
 pub low_digits : (width v : ℕ) → big_endian width (v % 256 ^ width) ≡ big_endian width v
@@ -122,27 +139,19 @@ big_endian-bytes zero v = tt
 big_endian-bytes (suc k) v =
     bytes-append (big_endian k (v / 256)) (v % 256 ∷ []) (big_endian-bytes k (v / 256)) (simp (lt-ltb (v % 256) 256 (mod-lt v (lit< tt))) tt)
 
+-- the length of pieces of one size
+pub length-pieces : {A : Type 0} (bytes : A → List ℕ) (size : ℕ) → ((x : A) → length (bytes x) ≡ size) → (vs : List A) → length (flat_map bytes vs) ≡ size * length vs
+length-pieces bytes size sized [] = sym (mul-zero size)
+length-pieces bytes size sized (v ∷ vs) =
+    length-append (bytes v) (flat_map bytes vs) ∙ omega (arith, sized v, length-pieces bytes size sized vs, mul-suc size (length vs))
+
 pub length-cells : (width : ℕ) (vs : List ℕ) → length (cell_bytes width vs) ≡ width * length vs
 unfolding cell_bytes
-length-cells width [] = sym (mul-zero width)
-length-cells width (v ∷ vs) =
-    length-append (big_endian width v) (cell_bytes width vs)
-    ∙ ap (λ (n : ℕ). n + length (cell_bytes width vs)) (length-big_endian width v)
-    ∙ ap (λ (n : ℕ). width + n) (length-cells width vs)
-    ∙ sym (mul-suc width (length vs) ∙ add_comm (width * length vs) width)
+length-cells width vs = length-pieces (big_endian width) width (length-big_endian width) vs
 
 pub cells-append : (width : ℕ) (us vs : List ℕ) → cell_bytes width (us ++ vs) ≡ cell_bytes width us ++ cell_bytes width vs
 unfolding cell_bytes
-cells-append width [] vs = refl
-cells-append width (u ∷ us) vs =
-    ap (λ (l : List ℕ). big_endian width u ++ l) (cells-append width us vs)
-    ∙ sym (append_assoc (big_endian width u) (cell_bytes width us) (cell_bytes width vs))
-
--- one number more, at i
-pub cells-more : (width : ℕ) (vs : List ℕ) (i : ℕ) → i < length vs → cell_bytes width (take i vs) ++ big_endian width (get_or vs i 0) ≡ cell_bytes width (take (i + 1) vs)
-unfolding cell_bytes
-cells-more width vs i h =
-    sym (rw (add-one i, take-suc vs i 0 h) (cells-append width (take i vs) (get_or vs i 0 ∷ []) ∙ ap (λ (l : List ℕ). cell_bytes width (take i vs) ++ l) (append-nil (big_endian width (get_or vs i 0)))))
+cells-append width us vs = flat_map-append (big_endian width) us vs
 
 -- ---- numbers at a place of bytes
 
@@ -161,6 +170,39 @@ module _ (b : List ℕ) (at : ℕ) where
   pub read_one : at < length b → number_at 1 b at ≡ get_or b at 0
   unfolding number_at from_big_endian
   read_one h = rw (drop-cons b at 0 h) (omega arith)
+
+-- ---- the standard library's reading of bytes, highest first
+
+worth : (j b : ℕ) → byte_worth (suc j) b ≡ byte_worth j b * 256
+worth zero b = refl
+worth (suc j) b = ap (λ (n : ℕ). b * n) (pow-suc 256 (suc j)) ∙ sym (mul_assoc b (256 ^ suc j) 256)
+
+times : (f g : ℕ → ℕ) (k : ℕ) → ((i : ℕ) → i ≤ k → g i ≡ f i * 256) → sum_through g k ≡ sum_through f k * 256
+times f g zero h = h 0 (omega arith)
+times f g (suc k) h = omega (arith, times f g k (λ i l. h i (omega arith)), h (suc k) (omega arith))
+
+sum_from : (bs : List ℕ) (k : ℕ) → k < length bs → sum_through (λ i. byte_worth (k - i) (get_or bs i 0)) k ≡ from_big_endian (take (suc k) bs)
+unfolding from_big_endian
+sum_from bs zero h = rw (take-suc bs 0 0 h) (omega arith)
+sum_from bs (suc k) h =
+    let before = λ (i : ℕ). byte_worth (k - i) (get_or bs i 0) in
+    let now = λ (i : ℕ). byte_worth (suc k - i) (get_or bs i 0) in
+    let turn : (i : ℕ) → i ≤ k → now i ≡ before i * 256 =
+    λ i l. let e : suc k - i ≡ suc (k - i) = omega arith in ap (λ (n : ℕ). byte_worth n (get_or bs i 0)) e ∙ worth (k - i) (get_or bs i 0)
+    in
+    let last : now (suc k) ≡ get_or bs (suc k) 0 = let e : suc k - suc k ≡ 0 = omega arith in ap (λ (n : ℕ). byte_worth n (get_or bs (suc k) 0)) e in
+    let step : sum_through now (suc k) ≡ from_big_endian (take (suc k) bs) * 256 + get_or bs (suc k) 0 =
+    omega (arith, times before now k turn, sum_from bs k (omega arith), last)
+    in
+    step ∙ sym (from-snoc (take (suc k) bs) (get_or bs (suc k) 0)) ∙ ap from_big_endian (sym (take-suc bs (suc k) 0 h))
+
+-- the number of k + 1 bytes at a place
+pub read_high_first : (k : ℕ) (b : List ℕ) (at : ℕ) → at + suc k ≤ length b → sum_through (λ i. byte_worth (k - i) (get_or (take (suc k) (drop at b)) i 0)) k ≡ number_at (suc k) b at
+unfolding number_at
+read_high_first k b at h =
+    let front = take (suc k) (drop at b) in
+    let n : length front ≡ suc k = length-take-le (suc k) (drop at b) (omega (arith, length-drop at b)) in
+    sum_from front k (omega arith) ∙ ap from_big_endian (take_all (suc k) front (omega arith))
 
 module _ (b : List ℕ) (at : ℕ) where
   -- a word is its four bytes

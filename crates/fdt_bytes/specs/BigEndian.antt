@@ -1,5 +1,5 @@
 -- Numbers as bytes: "All numbers are big-endian" (document 01, "The bytes").
-use Rattle.std.specs.Prelude.{ℕ, zero, suc, ◌+◌, ◌*◌, ◌/◌, ◌%◌, ◌^◌, List, [], ◌∷◌, ◌++◌, length, take, drop}
+use Rattle.std.specs.Prelude.{ℕ, zero, suc, ◌+◌, ◌*◌, ◌/◌, ◌%◌, ◌^◌, List, [], ◌∷◌, ◌++◌, length, take, drop, flat_map}
 
 -- the bytes of a number, highest byte first; the width says how many
 unfoldable pub big_endian : ℕ → ℕ → List ℕ
@@ -25,5 +25,4 @@ wide_at = number_at 8
 
 -- the bytes of numbers of one width, one number after the other
 unfoldable pub cell_bytes : ℕ → List ℕ → List ℕ
-cell_bytes width [] = []
-cell_bytes width (v ∷ vs) = big_endian width v ++ cell_bytes width vs
+cell_bytes width numbers = flat_map (big_endian width) numbers

@@ -1,39 +1,71 @@
 // Big-endian numbers, bytes and padding, written to and read from buffers that the caller lends. `rest` is the unused rest of a buffer; the writers write to its front.
 #![tactic(auto)]
 
-ghost use Rattle.std.specs.Prelude.{◌≡◌, ◌+◌, ◌≤◌, ◌<◌, ◌^◌, length};
+ghost use Rattle.std.specs.Prelude.{◌≡◌, ℕ, ◌+◌, ◌≤◌, ◌<◌, ◌^◌, List, length, take, drop, refl};
 ghost use Rattle.fdt_bytes.specs.BigEndian.{big_endian, word_at, wide_at};
 ghost use Rattle.fdt_bytes.specs.Padding.{padding, round_up, zeros};
 ghost use Rattle.fdt_bytes.specs.Splice.{over};
+
+// A number that is written as a fixed count of bytes, highest byte first.
+pub trait Cell: Copy {
+    // How many bytes.
+    const SIZE: usize;
+
+    ghost SIZE: { ℕ };
+
+    // The bytes of the number.
+    ghost bytes: { Self → List ℕ };
+
+    // Writes the number to the front of the rest.
+    fn append(self, rest: &mut [u8])
+        requires { SIZE ≤ length rest.old }
+        ensures { rest.new ≡ over (bytes self) rest.old };
+
+    ghost sized: { (x : Self) → length (bytes x) ≡ SIZE };
+}
+
+impl Cell for u32 {
+    const SIZE: usize = 4;
+
+    ghost SIZE = { 4 };
+
+    ghost bytes = { big_endian 4 };
+
+    ghost sized = { λ x. unfold big_endian in refl };
+
+    fn append(self, rest: &mut [u8]) {
+        append_u32(rest, self);
+    }
+}
+
+impl Cell for u64 {
+    const SIZE: usize = 8;
+
+    ghost SIZE = { 8 };
+
+    ghost bytes = { big_endian 8 };
+
+    ghost sized = { λ x. unfold big_endian in refl };
+
+    fn append(self, rest: &mut [u8]) {
+        append_u64(rest, self);
+    }
+}
 
 // Writes a number of 4 bytes to the front of the rest.
 pub fn append_u32(rest: &mut [u8], val: u32)
     requires { 4 ≤ length rest.old }
     ensures { rest.new ≡ over (big_endian 4 val) rest.old }
 {
-    let high = val / 256;
-    let higher = high / 256;
-    let highest = higher / 256;
-    rest[0] = (highest % 256) as u8;
-    rest[1] = (higher % 256) as u8;
-    rest[2] = (high % 256) as u8;
-    rest[3] = (val % 256) as u8;
+    append_bytes(rest, &u32::to_be_bytes(val));
 }
 
-// Writes a number of 8 bytes to the front of the rest: its high half, then its low half.
+// Writes a number of 8 bytes to the front of the rest.
 pub fn append_u64(rest: &mut [u8], val: u64)
     requires { 8 ≤ length rest.old }
     ensures { rest.new ≡ over (big_endian 8 val) rest.old }
 {
-    append_u32(rest, (val / 0x1_0000_0000) as u32);
-    append_u32(&mut rest[4..], (val % 0x1_0000_0000) as u32);
-}
-
-// A byte as a number of 32 bits.
-fn widened(byte: u8) -> u32
-    ensures { (result ≡ byte) × (result < 256) }
-{
-    byte as u32
+    append_bytes(rest, &u64::to_be_bytes(val));
 }
 
 // Reads the number of 4 bytes at a place.
@@ -41,10 +73,7 @@ pub fn read_u32(bytes: &[u8], at: usize) -> u32
     requires { at + 4 ≤ length bytes.now }
     ensures { result ≡ word_at bytes.now at }
 {
-    widened(bytes[at]) * 0x100_0000
-        + widened(bytes[at + 1]) * 0x1_0000
-        + widened(bytes[at + 2]) * 0x100
-        + widened(bytes[at + 3])
+    u32::from_be_bytes(bytes_from(bytes, at))
 }
 
 // Reads the number of 8 bytes at a place.
@@ -52,10 +81,21 @@ pub fn read_u64(bytes: &[u8], at: usize) -> u64
     requires { at + 8 ≤ length bytes.now }
     ensures { result ≡ wide_at bytes.now at }
 {
-    read_u32(bytes, at) as u64 * 0x1_0000_0000 + read_u32(bytes, at + 4) as u64
+    u64::from_be_bytes(bytes_from(bytes, at))
+}
+
+// The `N` bytes from a place on.
+fn bytes_from<const N: usize>(bytes: &[u8], at: usize) -> [u8; N]
+    requires { at + N ≤ length bytes.now }
+    ensures { result ≡ take N (drop at bytes.now) }
+{
+    let mut front = [0; N];
+    front.copy_from_slice(&bytes[at..at + N]);
+    front
 }
 
 // Writes the bytes of a value to the front of the rest.
+#[tactic(auto, unfolding(crate::specs::Splice::over))]
 pub fn append_bytes(rest: &mut [u8], val: &[u8])
     requires { length val.now ≤ length rest.old }
     ensures { rest.new ≡ over val.now rest.old }
@@ -64,15 +104,12 @@ pub fn append_bytes(rest: &mut [u8], val: &[u8])
 }
 
 // Writes zeros to the front of the rest.
+#[tactic(auto, unfolding(crate::specs::Splice::over, crate::specs::Padding::zeros))]
 pub fn pad(rest: &mut [u8], num_bytes: usize)
     requires { num_bytes ≤ length rest.old }
     ensures { rest.new ≡ over (zeros num_bytes) rest.old }
 {
-    let mut i = 0;
-    while i < num_bytes {
-        rest[i] = 0;
-        i += 1;
-    }
+    rest[..num_bytes].fill(0);
 }
 
 // How many bytes bring a length to a multiple of the alignment.

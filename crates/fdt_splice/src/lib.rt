@@ -1,10 +1,12 @@
 // Bytes written at a place of a buffer: the part from that place on is lent to the writers of fdt_bytes.
 #![tactic(auto)]
 
-ghost use Rattle.std.specs.Prelude.{◌≡◌, ◌+◌, ◌*◌, ◌≤◌, length};
-ghost use Rattle.fdt_bytes.specs.BigEndian.{big_endian, cell_bytes};
+ghost use Rattle.std.specs.Prelude.{◌≡◌, ◌+◌, ◌*◌, ◌≤◌, length, flat_map};
+ghost use Rattle.fdt_bytes.specs.BigEndian.{big_endian};
 ghost use Rattle.fdt_bytes.specs.Padding.{zeros};
 ghost use Rattle.fdt_bytes.specs.Splice.{splice};
+
+use fdt_bytes::Cell;
 
 // Rewrites a number of 4 bytes at an offset of the blob.
 pub fn update_u32(blob: &mut [u8], offset: usize, val: u32)
@@ -30,28 +32,12 @@ pub fn zeros_at(blob: &mut [u8], at: usize, num_bytes: usize)
     fdt_bytes::pad(&mut blob[at..], num_bytes);
 }
 
-// Writes numbers of 4 bytes, one after the other, from a place of the blob on.
-pub fn cells_at(blob: &mut [u8], at: usize, cells: &[u32])
-    requires { at + 4 * length cells.now ≤ length blob.old }
-    ensures { blob.new ≡ splice at (cell_bytes 4 cells.now) blob.old }
+// Writes numbers of one width, one after the other, from a place of the blob on.
+pub fn cells_at<T: Cell>(blob: &mut [u8], at: usize, cells: &[T])
+    requires { at + T.SIZE * length cells.now ≤ length blob.old }
+    ensures { blob.new ≡ splice at (flat_map T.bytes cells.now) blob.old }
 {
-    let mut i = 0;
-    while i < cells.len() {
-        let to = at + 4 * i;
-        fdt_bytes::append_u32(&mut blob[to..], cells[i]);
-        i += 1;
-    }
-}
-
-// Writes numbers of 8 bytes, one after the other, from a place of the blob on.
-pub fn wide_cells_at(blob: &mut [u8], at: usize, cells: &[u64])
-    requires { at + 8 * length cells.now ≤ length blob.old }
-    ensures { blob.new ≡ splice at (cell_bytes 8 cells.now) blob.old }
-{
-    let mut i = 0;
-    while i < cells.len() {
-        let to = at + 8 * i;
-        fdt_bytes::append_u64(&mut blob[to..], cells[i]);
-        i += 1;
+    for (i, cell) in cells.iter().enumerate() {
+        cell.append(&mut blob[at + T::SIZE * i..]);
     }
 }

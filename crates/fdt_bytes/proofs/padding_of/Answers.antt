@@ -1,17 +1,12 @@
 -- `padding_of` meets its contract: a multiple needs no padding, any other length what is missing to the next.
 use mathlib.Core.Path.{sym}
-use native.Mathlib.Nat.{mod-lt}
 use Rattle.fdt_bytes.proofs.Padding.{padding_none, padding_some}
 use borrow.Author.Rules.{rules}
-use native.Mathlib.Omega.{arith}
 use Rattle.fdt_bytes.proofs.padding_of.Goals as goal
 
 pub returns-then-offset-eq0 : goal.returns-then-offset-eq0
 returns-then-offset-eq0 c =
     let a = c.args in sym (padding_none a.alignment a.len (search rules) c.if-offset-eq0.true)
-
-pub overflow_sub-result : goal.overflow_sub-result
-overflow_sub-result c = omega (arith, mod-lt c.args.len c.requires)
 
 pub returns : goal.returns
 returns c =

@@ -1,7 +1,7 @@
--- `read_u64` meets its contract: it joins two words (`two_words`).
-use mathlib.Core.Path.{sym}
-use Rattle.fdt_bytes.proofs.BigEndian.{two_words}
+-- `read_u64` meets its contract: `from_be_bytes` is the number of the definition (`read_high_first`).
+use mathlib.Core.Path.{◌∙◌}
+use Rattle.fdt_bytes.proofs.BigEndian.{read_high_first}
 use Rattle.fdt_bytes.proofs.read_u64.Goals as goal
 
 pub returns : goal.returns
-returns c = rw (c.read_u32.ensures, c.read_u32-2.ensures) (sym (two_words _ _ c.requires))
+returns c = c.from_be_bytes.ensures ∙ rw c.bytes_from.ensures (read_high_first 7 _ _ c.requires)
