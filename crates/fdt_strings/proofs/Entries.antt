@@ -10,8 +10,7 @@ use lib.ListN.{length, get_or, length-append}
 use lib.Seq.{append_snoc, get_or_at}
 use lib.Dec.{eqb}
 use Rattle.fdt_strings.specs.Entries.{found_values, entry, with_byte, entries, same, first_from, find_string, joined, NoZero, no_byte, next_byte}
-use Rattle.fdt_strings.specs.declared.Found.{Found}
-use Rattle.fdt_strings.specs.declared.Found.TheVariants.{At, Nothing}
+use Rattle.std.specs.Prelude.{Option, Some, None}
 
 -- ---- the same bytes
 
@@ -143,12 +142,12 @@ joined-whole (ended (b ∷ s)) = go (eqb b 0) refl (some_entry s).2 (joined-whol
 -- ---- where a name is found
 
 -- if nothing is found, the first entry is not the name and nothing is found among the others
-missed : (k : ℕ) {x : Found} (z : Bool) → cond z (At k) x ≡ Nothing → (z ≡ false) × (x ≡ Nothing)
+missed : (k : ℕ) {x : Option ℕ} (z : Bool) → cond z (Some k) x ≡ None → (z ≡ false) × (x ≡ None)
 missed k true h = let n : ◌≡◌ {A = ℕ} 0 1 = cc in absurd (omega arith)
 missed k false h = (refl, h)
 
 -- entries that are not the name are passed over
-pub first-after : (name : List ℕ) (k : ℕ) (es fs : List (List ℕ)) → first_from k es name ≡ Nothing → first_from k (es ++ fs) name ≡ first_from (k + length (joined es)) fs name
+pub first-after : (name : List ℕ) (k : ℕ) (es fs : List (List ℕ)) → first_from k es name ≡ None → first_from k (es ++ fs) name ≡ first_from (k + length (joined es)) fs name
 unfolding first_from joined
 first-after name k [] fs h = ap (λ (n : ℕ). first_from n fs name) (omega arith)
 first-after name k (e ∷ es) fs h =
@@ -162,15 +161,15 @@ record Among (k : ℕ) (es : List (List ℕ)) (name : List ℕ) (i : ℕ) : Type
   behind : List (List ℕ)
   split : es ≡ before ++ name ∷ behind
   place : k + length (joined before) ≡ i
-  first : first_from k before name ≡ Nothing
+  first : first_from k before name ≡ None
 
-among : (k : ℕ) (es : List (List ℕ)) (name : List ℕ) (i : ℕ) → first_from k es name ≡ At i → Among k es name i
+among : (k : ℕ) (es : List (List ℕ)) (name : List ℕ) (i : ℕ) → first_from k es name ≡ Some i → Among k es name i
 unfolding first_from joined
 among k [] name i h = let n : ◌≡◌ {A = ℕ} 0 1 = cc in absurd (omega arith)
 among k (e ∷ es) name i h = go (same e name) refl (λ r. among (k + (length e + 1)) es name i r) h
   where
     go :
-        {x : Found} (z : Bool) → same e name ≡ z → (x ≡ At i → Among (k + (length e + 1)) es name i) → cond z (At k) x ≡ At i →
+        {x : Option ℕ} (z : Bool) → same e name ≡ z → (x ≡ Some i → Among (k + (length e + 1)) es name i) → cond z (Some k) x ≡ Some i →
         Among k (e ∷ es) name i
     go true f more h =
         let n : k ≡ i = cc in
@@ -197,10 +196,10 @@ pub record Stands (s name : List ℕ) (i : ℕ) : Type 0 where
   pub place : length before ≡ i
   pub starts : Whole before
   pub plain : NoZero name
-  pub first : find_string before name ≡ Nothing
+  pub first : find_string before name ≡ None
 
 -- a name that is found is there
-pub found-stands : (s name : List ℕ) (i : ℕ) → find_string s name ≡ At i → Stands s name i
+pub found-stands : (s name : List ℕ) (i : ℕ) → find_string s name ≡ Some i → Stands s name i
 unfolding find_string joined entry
 found-stands s name i h =
     let a = among 0 (entries s) name i h in
@@ -217,7 +216,7 @@ found-stands s name i h =
     }
 
 -- a name that is there is found
-pub stands-found : (s name : List ℕ) (i : ℕ) → Stands s name i → find_string s name ≡ At i
+pub stands-found : (s name : List ℕ) (i : ℕ) → Stands s name i → find_string s name ≡ Some i
 unfolding find_string first_from
 stands-found s name i w =
     let e : entries s ≡ entries w.before ++ name ∷ entries w.behind =
@@ -225,14 +224,14 @@ stands-found s name i w =
     in
     let n : 0 + length (joined (entries w.before)) ≡ i = simp (joined-whole w.starts) (omega (arith, w.place)) in
     ap (λ (l : List (List ℕ)). first_from 0 l name) e ∙ first-after name 0 (entries w.before) (name ∷ entries w.behind) w.first
-    ∙ simp (eq_same name name refl) (ap At n)
+    ∙ simp (eq_same name name refl) (ap Some n)
 
 -- a name that is in the strings fits in them
 pub stands-fits : {s name : List ℕ} {i : ℕ} → Stands s name i → i + length (entry name) ≤ length s
 stands-fits {name = name} w = omega (arith, length-entry name, simp length-append at (ap length w.split))
 
 -- a name that is found stays where it is, whatever follows
-pub found-append : (s t name : List ℕ) (i : ℕ) → find_string s name ≡ At i → find_string (s ++ t) name ≡ At i
+pub found-append : (s t name : List ℕ) (i : ℕ) → find_string s name ≡ Some i → find_string (s ++ t) name ≡ Some i
 found-append s t name i h =
     let w = found-stands s name i h in
     stands-found (s ++ t) name i (record {
@@ -246,22 +245,22 @@ found-append s t name i h =
     })
 
 -- a new name that is stored after whole strings is found there
-pub found-stored : {s name : List ℕ} → Whole s → NoZero name → find_string s name ≡ Nothing → find_string (s ++ entry name) name ≡ At (length s)
+pub found-stored : {s name : List ℕ} → Whole s → NoZero name → find_string s name ≡ None → find_string (s ++ entry name) name ≡ Some (length s)
 unfolding entry
 found-stored {s} {name} w n h =
     stands-found (s ++ entry name) name (length s) (record { before = s; behind = []; split = refl; place = refl; starts = w; plain = n; first = h })
 
 -- a name that is not found is not an entry
-pub not_found : (s name : List ℕ) → find_string s name ≡ Nothing → Memᴰ name (entries s) → ⊥
+pub not_found : (s name : List ℕ) → find_string s name ≡ None → Memᴰ name (entries s) → ⊥
 unfolding find_string first_from
 not_found s name h m = go 0 m h
   where
-    go : (k : ℕ) {es : List (List ℕ)} → Memᴰ name es → first_from k es name ≡ Nothing → ⊥
+    go : (k : ℕ) {es : List (List ℕ)} → Memᴰ name es → first_from k es name ≡ None → ⊥
     go k (Memᴰ.head {x = e} q) h = true≢false (sym (eq_same e name (sym q)) ∙ (missed k (same e name) h).0)
     go k (Memᴰ.tail {x = e} m) h = go (k + (length e + 1)) m (missed k (same e name) h).1
 
 -- a result has an offset as its value exactly when the name is found there
-pub found-values : (f : Found) (i : ℕ) → (found_values f ≡ i ∷ []) ↔ (f ≡ At i)
+pub found-values : (f : Option ℕ) (i : ℕ) → (found_values f ≡ i ∷ []) ↔ (f ≡ Some i)
 unfolding found_values
-found-values (At j) i = (λ h. cc, λ h. cc)
-found-values Nothing i = (λ h. cc, λ h. cc)
+found-values (Some j) i = (λ h. cc, λ h. cc)
+found-values None i = (λ h. cc, λ h. cc)

@@ -7,8 +7,7 @@ use lib.ListN.{length, take, drop, get_or, get_or-append, take-append-drop, leng
 use lib.Seq.{take-suc, drop_at, drop-cons, drop-drop, get_or_at, get_or-take, get_or-drop, length-take-le, ext_get_or}
 use Rattle.fdt_search.specs.FirstEntry.{EntryAt, NoEntry}
 use Rattle.fdt_strings.specs.Entries.{entry, find_string, NoZero, no_byte, next_byte}
-use Rattle.fdt_strings.specs.declared.Found.{Found}
-use Rattle.fdt_strings.specs.declared.Found.TheVariants.{At, Nothing}
+use Rattle.std.specs.Prelude.{Option, Some, None}
 use Rattle.fdt_strings.proofs.Entries.{length-entry, Whole, empty, ended, whole-last, found-stands, stands-found, stands-fits, found-append}
 
 zero_free : {s : List ℕ} → NoZero s → (k : ℕ) → k < length s → get_or s k 0 ≡ 0 → ⊥
@@ -26,7 +25,7 @@ whole_take s zero h z = empty
 whole_take s (suc m) h z = let k : suc m - 1 ≡ m = omega arith in rw (take-suc s m 0 h, rw k at (z (omega arith))) (ended (take m s))
 
 module _ (s name : List ℕ) where
-  pub found-entry : (i : ℕ) → find_string s name ≡ At i → EntryAt s name i
+  pub found-entry : (i : ℕ) → find_string s name ≡ Some i → EntryAt s name i
   found-entry i h =
       let w = found-stands s name i h in
       let rest : drop i s ≡ name ++ 0 ∷ w.behind = ap (drop i) w.split ∙ drop_at w.before _ i w.place in
@@ -50,17 +49,17 @@ module _ (s name : List ℕ) where
       ∙ ap (λ (l : List ℕ). take i s ++ l)
       (sym (take-append-drop (length name) (drop i s)) ∙ rw (same, drop-drop, drop-cons s (i + length name) 0 w.fits, w.ended) refl)
 
-  pub entry_found : (i : ℕ) → EntryAt s name i → NoEntry s name i → find_string s name ≡ At i
+  pub entry_found : (i : ℕ) → EntryAt s name i → NoEntry s name i → find_string s name ≡ Some i
   entry_found i w none = go (find_string (take i s) name) refl
     where
       front : length (take i s) ≡ i
       front = length-take-le i s (omega (arith, w.fits))
 
-      go : (f : Found) → find_string (take i s) name ≡ f → find_string s name ≡ At i
-      go (At j) e =
-          let earlier : find_string s name ≡ At j = ap (λ (l : List ℕ). find_string l name) (entry_split i w) ∙ found-append (take i s) _ name j e in
+      go : (f : Option ℕ) → find_string (take i s) name ≡ f → find_string s name ≡ Some i
+      go (Some j) e =
+          let earlier : find_string s name ≡ Some j = ap (λ (l : List ℕ). find_string l name) (entry_split i w) ∙ found-append (take i s) _ name j e in
           absurd (none j (omega (arith, front, length-entry name, stands-fits (found-stands (take i s) name j e))) (found-entry j earlier))
-      go Nothing e =
+      go None e =
           stands-found s name i
           (record {
             before = take i s;
@@ -72,9 +71,9 @@ module _ (s name : List ℕ) where
             first = e;
           })
 
-  pub entry_nowhere : ((i : ℕ) → EntryAt s name i → ⊥) → find_string s name ≡ Nothing
+  pub entry_nowhere : ((i : ℕ) → EntryAt s name i → ⊥) → find_string s name ≡ None
   entry_nowhere none = go (find_string s name) refl
     where
-      go : (f : Found) → find_string s name ≡ f → f ≡ Nothing
-      go (At i) e = absurd (none i (found-entry i e))
-      go Nothing e = refl
+      go : (f : Option ℕ) → find_string s name ≡ f → f ≡ None
+      go (Some i) e = absurd (none i (found-entry i e))
+      go None e = refl

@@ -1,12 +1,10 @@
 -- The strings area as entries, each ended by a 0: "A name is found only as a whole entry, and the first such entry counts" (document 01, "The bytes").
-use Rattle.std.specs.Prelude.{ℕ, ◌+◌, ◌<◌, Bool, true, false, cond, ◌&&◌, List, [], ◌∷◌, ◌++◌, length, eqb}
-use Rattle.fdt_strings.specs.declared.Found.{Found}
-use Rattle.fdt_strings.specs.declared.Found.TheVariants.{At, Nothing}
+use Rattle.std.specs.Prelude.{ℕ, ◌+◌, ◌<◌, Bool, true, false, cond, ◌&&◌, List, [], ◌∷◌, ◌++◌, length, eqb, Option, Some, None}
 
 -- the values of a result
-unfoldable pub found_values : Found → List ℕ
-found_values (At offset) = offset ∷ []
-found_values Nothing = []
+unfoldable pub found_values : Option ℕ → List ℕ
+found_values (Some offset) = offset ∷ []
+found_values None = []
 
 -- a name with its 0, as it is stored
 unfoldable pub entry : List ℕ → List ℕ
@@ -40,10 +38,10 @@ same (b ∷ s) [] = false
 same (b ∷ s) (c ∷ t) = eqb b c && same s t
 
 -- the offset of the first entry that is the name, if the first entry of all is at `offset`
-unfoldable pub first_from : ℕ → List (List ℕ) → List ℕ → Found
-first_from offset [] name = Nothing
-first_from offset (e ∷ es) name = cond (same e name) (At offset) (first_from (offset + (length e + 1)) es name)
+unfoldable pub first_from : ℕ → List (List ℕ) → List ℕ → Option ℕ
+first_from offset [] name = None
+first_from offset (e ∷ es) name = cond (same e name) (Some offset) (first_from (offset + (length e + 1)) es name)
 
 -- the offset of the name in the strings
-unfoldable pub find_string : List ℕ → List ℕ → Found
+unfoldable pub find_string : List ℕ → List ℕ → Option ℕ
 find_string strings name = first_from 0 (entries strings) name

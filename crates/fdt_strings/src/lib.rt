@@ -6,48 +6,36 @@ ghost use Rattle.fdt_bytes.specs.Splice.{splice};
 ghost use Rattle.fdt_strings.specs.Entries.{entry, find_string};
 ghost use Rattle.fdt_strings.specs.Interned.{interned};
 
-// The offset of a name in the strings, if it is there.
-#[derive(Clone, Copy)]
-pub enum Found {
-    At(usize),
-    Nothing,
-}
-
-// The result of `intern_string`: the offset of a name that is there, the offset for a new name, or refusal 15.
-#[derive(Clone, Copy)]
+// The offset of a name that is there, or the offset for a new one.
+#[derive(Clone, Copy, Debug, PartialEq, Eq)]
 pub enum Interned {
     Known(usize),
     New(usize),
-    StringRoom,
 }
 
+// Refusal 15: a new name and its 0 don't fit.
+#[derive(Clone, Copy, Debug, PartialEq, Eq)]
+pub struct StringRoom;
+
 // Finds the first whole entry that is the name.
-pub fn find_string(strings: &[u8], name: &[u8]) -> Found
+pub fn find_string(strings: &[u8], name: &[u8]) -> Option<usize>
     ensures { result ≡ find_string strings.now name.now }
 {
     let at = fdt_search::first_entry(strings, name);
-    if at < strings.len() {
-        return Found::At(at);
-    }
-    Found::Nothing
+    if at < strings.len() { Some(at) } else { None }
 }
 
 // Finds the name in the used strings, or a place for it after them if it and its 0 fit within `room`. Stores nothing.
-pub fn intern_string(used: &[u8], room: usize, name: &[u8]) -> Interned
+pub fn intern_string(used: &[u8], room: usize, name: &[u8]) -> Result<Interned, StringRoom>
     ensures { result ≡ interned used.now room name.now }
 {
-    match find_string(used, name) {
-        Found::At(offset) => Interned::Known(offset),
-        Found::Nothing => {
-            if room < used.len() {
-                return Interned::StringRoom;
-            }
-            if name.len() < room - used.len() {
-                return Interned::New(used.len());
-            }
-            Interned::StringRoom
-        }
+    if let Some(offset) = find_string(used, name) {
+        return Ok(Interned::Known(offset));
     }
+    if room.saturating_sub(used.len()) <= name.len() {
+        return Err(StringRoom);
+    }
+    Ok(Interned::New(used.len()))
 }
 
 // Stores a new name and its 0 at its offset.

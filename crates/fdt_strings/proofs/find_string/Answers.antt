@@ -7,5 +7,5 @@ use Rattle.fdt_strings.proofs.find_string.Goals as goal
 pub returns-then-at-strings : goal.returns-then-at-strings
 returns-then-at-strings c = let first = c.first_entry-at.ensures in sym (entry_found _ _ _ (first.found c.if-at-strings.true) first.first)
 
-pub returns : goal.returns
-returns c = sym (entry_nowhere _ _ (λ i w. c.first_entry-at.ensures.first i (omega (arith, w.fits)) w))
+pub returns-else-at-strings : goal.returns-else-at-strings
+returns-else-at-strings c = sym (entry_nowhere _ _ (λ i w. c.first_entry-at.ensures.first i (omega (arith, w.fits)) w))

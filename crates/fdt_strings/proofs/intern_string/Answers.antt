@@ -4,14 +4,11 @@ use native.Mathlib.Omega.{arith}
 use Rattle.fdt_strings.proofs.Places.{interned_known, interned-new, interned_full}
 use Rattle.fdt_strings.proofs.intern_string.Goals as goal
 
-pub returns-then-room-used : goal.returns-then-room-used
-returns-then-room-used c = sym (interned_full _ _ _ (sym c.in-Nothing.ensures) (omega arith))
+pub returns-in-Some : goal.returns-in-Some
+returns-in-Some c = sym (interned_known _ _ _ _ (sym c.in-Some.ensures))
 
-pub returns-then-name-room : goal.returns-then-name-room
-returns-then-name-room c = sym (interned-new _ _ _ (sym c.in-Nothing.ensures) (omega arith))
+pub returns-then-saturating_sub-name : goal.returns-then-saturating_sub-name
+returns-then-saturating_sub-name c = sym (interned_full _ _ _ (sym c.in_default.ensures) (omega arith))
 
-pub returns-in-At : goal.returns-in-At
-returns-in-At c = sym (interned_known _ _ _ _ (sym c.in-At.ensures))
-
-pub returns-else-name-room : goal.returns-else-name-room
-returns-else-name-room c = sym (interned_full _ _ _ (sym c.in-Nothing.ensures) (omega arith))
+pub returns : goal.returns
+returns c = sym (interned-new _ _ _ (sym c.in_default.ensures) (omega arith))
