@@ -16,15 +16,14 @@ use Rattle.fdt_bytes.proofs.Splice.{length-splice, splice-three}
 use Rattle.fdt_reserve.specs.Overlap.{Overlap}
 use Rattle.fdt_reserve.proofs.Overlap.{overlapping_exact}
 use Rattle.fdt_header.specs.Header.{header_size, structure_start, reservation_bytes}
-use Rattle.fdt_record.specs.declared.Answer.{Answer}
-use Rattle.fdt_record.specs.declared.Answer.TheVariants.{Done}
-use Rattle.fdt_record.specs.declared.Outcome.{Outcome}
+use Rattle.std.specs.Prelude.{Err}
+use Rattle.fdt_record.specs.declared.Error.{Error}
 use Rattle.fdt_record.specs.declared.Record.{Record}
-use Rattle.fdt_record.specs.Answers.{accepts}
+use Rattle.fdt_record.specs.Answers.{Done, accepts}
 use Rattle.fdt_record.specs.Limits.{blob_ceiling, most_reservations, usable}
-use Rattle.fdt_record.proofs.Answers.{upon-done, upon-refused, accepts-done}
+use Rattle.fdt_record.proofs.Answers.{upon-done, upon-err, upon-refused, accepts-done, outcome-accepted, outcome-refused}
 use Rattle.fdt_record.proofs.Fits.{usable-within, not_overfull}
-use Rattle.fdt_record.proofs.Rows.{all_answers, Refusals, ByName, by_name, Exactly, exactly}
+use Rattle.fdt_record.proofs.Rows.{ByName, by_name, Exactly, exactly}
 use Rattle.fdt_opening.specs.Opening.{count, some_invalid, opening_rows, opening_answer, opened_record, closed_record, opening_bytes, opening, opening_blob, OpeningOutcome}
 
 module _ (numbers : List ℕ) where
@@ -44,14 +43,9 @@ module _ (numbers : List ℕ) where
       simp (length-append, length-zeros, length-cells) (omega arith)
 
 module _ (blob strings phandles : ℕ) (numbers : List ℕ) where
-  -- every answer of the tests is a refusal
-  pub opening_refusals : Refusals (opening_rows blob strings phandles numbers)
-  unfolding opening_rows all_answers Refusals accepts
-  opening_refusals = refl
-
   pub opening_exactly : Exactly (opening_rows blob strings phandles numbers) (opening_answer blob strings phandles numbers)
   unfolding opening_answer
-  opening_exactly = exactly (opening_rows blob strings phandles numbers) opening_refusals
+  opening_exactly = exactly (opening_rows blob strings phandles numbers)
 
 -- what an accepted opening may rely on
 pub record OpeningFits (lent : ℕ) (numbers : List ℕ) : Type 0 where
@@ -100,31 +94,17 @@ module _ (blob : List ℕ) (strings phandles : ℕ) (numbers : List ℕ) where
           ∙ length-splice 0 (opening_bytes numbers) blob (omega (arith, length-opening_bytes numbers, (opened-fits (length blob) strings phandles numbers d).room))
       go false e = ap length (refused-blob e)
 
--- Any two outcomes of a call coincide.
-module _ {blob : List ℕ} {strings phandles : ℕ} {numbers : List ℕ} {r s : Outcome} {a b : List ℕ} (one : OpeningOutcome blob strings phandles numbers r a) (other : OpeningOutcome blob strings phandles numbers s b) where
-  pub same-result : r ≡ s
-  same-result = one.result ∙ sym other.result
+  -- what an opening gives, by its answer
+  pub refused-outcome : {error : Error} → opening_answer (length blob) strings phandles numbers ≡ Err error → (after : Record) → after ≡ closed_record → OpeningOutcome blob strings phandles numbers (record { answer = Err error; after = after }) blob
+  unfolding opening opening_blob
+  refused-outcome {error} e after f = record {
+    result = ap (λ (w : Record). record { answer = Err error; after = w }) f ∙ outcome-refused _ _ e;
+    bytes = sym (upon-err _ _ e);
+  }
 
-  pub same_bytes : a ≡ b
-  same_bytes = one.bytes ∙ sym other.bytes
-
--- The outcome of a call that computed the answer.
-module _ (blob : List ℕ) (strings phandles : ℕ) (numbers : List ℕ) (answer : Answer) (computed : answer ≡ opening_answer (length blob) strings phandles numbers) where
-  pub refused-outcome : (after : Record) → accepts answer ≡ false → after ≡ closed_record → OpeningOutcome blob strings phandles numbers (record { answer = answer; after = after }) blob
+  pub accepted-outcome : opening_answer (length blob) strings phandles numbers ≡ Done → (after : Record) → after ≡ opened_record (length blob) strings phandles numbers → {written : List ℕ} → written ≡ splice 0 (opening_bytes numbers) blob → OpeningOutcome blob strings phandles numbers (record { answer = Done; after = after }) written
   unfolding opening
-  refused-outcome after e f =
-      let g : accepts (opening_answer (length blob) strings phandles numbers) ≡ false = ap accepts (sym computed) ∙ e in
-      record {
-        result = simp (f, computed, g);
-        bytes = sym (refused-blob blob strings phandles numbers g);
-      }
-
-  pub accepted-outcome : (after : Record) (written : List ℕ) → accepts answer ≡ true → written ≡ splice 0 (opening_bytes numbers) blob → after ≡ opened_record (length blob) strings phandles numbers → OpeningOutcome blob strings phandles numbers (record { answer = answer; after = after }) written
-  unfolding opening
-  accepted-outcome after written e w f =
-      let d = sym computed ∙ accepts-done answer e in
-      let g : accepts (opening_answer (length blob) strings phandles numbers) ≡ true = ap accepts (sym computed) ∙ e in
-      record {
-        result = simp (f, computed, g);
-        bytes = w ∙ sym (accepted-blob blob strings phandles numbers d);
-      }
+  accepted-outcome e after f w = record {
+    result = ap (λ (x : Record). record { answer = Done; after = x }) f ∙ outcome-accepted _ _ e;
+    bytes = w ∙ sym (accepted-blob e);
+  }

@@ -5,11 +5,10 @@ use Rattle.fdt_bytes.specs.Splice.{splice}
 use Rattle.fdt_reserve.specs.Entry.{invalid}
 use Rattle.fdt_reserve.specs.Overlap.{start, size, some_below, overlapping}
 use Rattle.fdt_header.specs.Header.{header_size, structure_start, reservation_bytes}
-use Rattle.fdt_record.specs.declared.Answer.{Answer}
-use Rattle.fdt_record.specs.declared.Answer.TheVariants.{Misfit, TooManyReservations, InvalidMemoryReservation, OverlappingMemoryReservations, BlobRoom}
+use Rattle.fdt_record.specs.declared.Error.TheVariants.{Misfit, TooManyReservations, InvalidMemoryReservation, OverlappingMemoryReservations, BlobRoom}
 use Rattle.fdt_record.specs.declared.Outcome.{Outcome}
 use Rattle.fdt_record.specs.declared.Record.{Record}
-use Rattle.fdt_record.specs.Answers.{upon}
+use Rattle.fdt_record.specs.Answers.{Answer, upon}
 use Rattle.fdt_record.specs.Limits.{blob_ceiling, strings_ceiling, phandles_ceiling, most_reservations, usable}
 use Rattle.fdt_record.specs.Misfits.{overfull}
 use Rattle.fdt_record.specs.Rows.{Row, ◌⇒◌, first}
@@ -76,7 +75,7 @@ unfoldable pub opening_bytes : List ℕ → List ℕ
 opening_bytes numbers = zeros header_size ++ reservation_bytes numbers
 
 -- the answer and the record, for the lengths of the three buffers
-unfoldable pub opening : ℕ → ℕ → ℕ → List ℕ → Outcome
+unfoldable pub opening : ℕ → ℕ → ℕ → List ℕ → Outcome (Unit {0})
 opening blobLength stringsLength phandlesLength numbers = record {
   answer = opening_answer blobLength stringsLength phandlesLength numbers;
   after = upon (opening_answer blobLength stringsLength phandlesLength numbers) (opened_record blobLength stringsLength phandlesLength numbers) closed_record;
@@ -88,6 +87,6 @@ opening_blob blob stringsLength phandlesLength numbers =
     upon (opening_answer (length blob) stringsLength phandlesLength numbers) (splice 0 (opening_bytes numbers) blob) blob
 
 -- the outcome of a call
-pub record OpeningOutcome (blob : List ℕ) (stringsLength phandlesLength : ℕ) (numbers : List ℕ) (r : Outcome) (after : List ℕ) : Type 0 where
+pub record OpeningOutcome (blob : List ℕ) (stringsLength phandlesLength : ℕ) (numbers : List ℕ) (r : Outcome (Unit {0})) (after : List ℕ) : Type 0 where
   pub result : r ≡ opening (length blob) stringsLength phandlesLength numbers
   pub bytes : after ≡ opening_blob blob stringsLength phandlesLength numbers

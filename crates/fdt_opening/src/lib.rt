@@ -7,7 +7,9 @@ ghost use Rattle.fdt_record.specs.Limits.{most_reservations};
 ghost use Rattle.fdt_opening.specs.Opening.{count, some_invalid, opening_answer, opening_bytes, opened_record, closed_record, OpeningOutcome};
 
 use fdt_header::Header;
-use fdt_record::{Answer, Outcome, Record};
+use fdt_record::{
+    BLOB_CEILING, Error, MAX_RESERVATIONS, Outcome, PHANDLES_CEILING, Record, STRINGS_CEILING,
+};
 use fdt_reserve::{FdtReserveEntry, Reserved};
 
 // Whether some reservation is refused.
@@ -15,18 +17,17 @@ fn some_invalid(mem_reservations: &[u64]) -> bool
     ensures { result ≡ some_invalid mem_reservations.now }
 {
     let n = mem_reservations.len() / 2;
-    let mut i = 0;
-    while i < n {
+    for i in 0..n {
         let e = fdt_reserve::entry_at(mem_reservations, i);
         if let Reserved::InvalidMemoryReservation = FdtReserveEntry::new(e.address, e.size) {
             return true;
         }
-        i += 1;
     }
     false
 }
 
 // The record that an accepted opening leaves.
+#[tactic(auto, unfolding(crate::specs::Opening::opened_record))]
 fn opened(blob: usize, strings: usize, phandles: usize, mem_reservations: &[u64]) -> Record
     requires { count mem_reservations.now ≤ most_reservations }
     ensures { result ≡ opened_record blob strings phandles mem_reservations.now }
@@ -34,41 +35,42 @@ fn opened(blob: usize, strings: usize, phandles: usize, mem_reservations: &[u64]
     let n = mem_reservations.len() / 2;
     let start = fdt_header::structure_start(n);
     Record {
-        blob_room: fdt_record::usable_length(fdt_record::BLOB_CEILING, blob),
+        blob_room: fdt_record::usable_length(BLOB_CEILING, blob),
         blob_used: start,
-        strings_room: fdt_record::usable_length(fdt_record::STRINGS_CEILING, strings),
-        strings_used: 0,
-        phandles_room: fdt_record::usable_length(fdt_record::PHANDLES_CEILING, phandles),
-        phandles_used: 0,
+        strings_room: fdt_record::usable_length(STRINGS_CEILING, strings),
+        phandles_room: fdt_record::usable_length(PHANDLES_CEILING, phandles),
         reservations: n,
-        node_depth: 0,
         node_start: start,
-        boot_cpuid_phys: 0,
-        node_ended: false,
-        finished: false,
+        ..Record::default()
     }
 }
 
 // The tests of an opening, in their order.
-fn opening_tests(blob: usize, strings: usize, phandles: usize, mem_reservations: &[u64]) -> Answer
+#[tactic(auto, unfolding(fdt_record::specs::Rows::first, crate::specs::Opening::opening_rows, crate::specs::Opening::opening_answer))]
+fn opening_tests(
+    blob: usize,
+    strings: usize,
+    phandles: usize,
+    mem_reservations: &[u64],
+) -> Result<(), Error>
     ensures { result ≡ opening_answer blob strings phandles mem_reservations.now }
 {
     if mem_reservations.len() % 2 != 0 {
-        return Answer::Misfit;
+        return Err(Error::Misfit);
     }
-    if fdt_record::MAX_RESERVATIONS < mem_reservations.len() / 2 {
-        return Answer::TooManyReservations;
+    if MAX_RESERVATIONS < mem_reservations.len() / 2 {
+        return Err(Error::TooManyReservations);
     }
     if some_invalid(mem_reservations) {
-        return Answer::InvalidMemoryReservation;
+        return Err(Error::InvalidMemoryReservation);
     }
     if fdt_reserve::check_overlapping(mem_reservations) {
-        return Answer::OverlappingMemoryReservations;
+        return Err(Error::OverlappingMemoryReservations);
     }
-    if fdt_record::overfull(opened(blob, strings, phandles, mem_reservations)) {
-        return Answer::BlobRoom;
+    if opened(blob, strings, phandles, mem_reservations).overfull() {
+        return Err(Error::BlobRoom);
     }
-    Answer::Done
+    Ok(())
 }
 
 // Writes a header of zeros and the reservations to the front of the blob.
@@ -86,40 +88,35 @@ fn write_mem_rsvmap(blob: &mut [u8], mem_reservations: &[u64])
 }
 
 // The record that a refused opening hands back.
+#[tactic(auto, unfolding(crate::specs::Opening::closed_record))]
 fn closed() -> Record
     ensures { result ≡ closed_record }
 {
     Record {
-        blob_room: 0,
-        blob_used: 0,
-        strings_room: 0,
-        strings_used: 0,
-        phandles_room: 0,
-        phandles_used: 0,
-        reservations: 0,
-        node_depth: 0,
-        node_start: 0,
-        boot_cpuid_phys: 0,
-        node_ended: false,
         finished: true,
+        ..Record::default()
     }
 }
 
 // Opens a writer over three buffers, with reservations given as address and size in turn.
-pub fn open(blob: &mut [u8], strings: &[u8], phandles: &[u32], mem_reservations: &[u64]) -> Outcome
+pub fn open(
+    blob: &mut [u8],
+    strings: &[u8],
+    phandles: &[u32],
+    mem_reservations: &[u64],
+) -> Outcome<()>
     ensures { OpeningOutcome blob.old (length strings.now) (length phandles.now) mem_reservations.now result blob.new }
 {
     let lent = blob.len();
-    let answer = opening_tests(lent, strings.len(), phandles.len(), mem_reservations);
-    if !fdt_record::accepted(answer) {
+    if let Err(error) = opening_tests(lent, strings.len(), phandles.len(), mem_reservations) {
         return Outcome {
-            answer,
+            answer: Err(error),
             after: closed(),
         };
     }
     write_mem_rsvmap(blob, mem_reservations);
     Outcome {
-        answer,
+        answer: Ok(()),
         after: opened(lent, strings.len(), phandles.len(), mem_reservations),
     }
 }

@@ -26,7 +26,7 @@ pub const FDT_MAX_NODE_DEPTH: usize = 64;
 // What a writer knows of the calls so far and of its buffers: of each the usable length at opening (room) and how much is used.
 // `node_start` is the place in the blob where the open node's properties start.
 #[repr(C)]
-#[derive(Clone, Copy)]
+#[derive(Clone, Copy, Default)]
 pub struct Record {
     pub blob_room: usize,
     pub blob_used: usize,

@@ -1,18 +1,14 @@
 -- `some_invalid` meets its contract: no reservation that was passed is refused, and one that is ends the search.
-use mathlib.Core.Path.{◌≡◌, refl, sym}
-use Prim.Native.Nat.{◌/◌}
-use lib.ListN.{length}
+use Rattle.std.proofs.Common.{◌≡◌, sym, refl, arith}
 use Rattle.fdt_reserve.specs.Overlap.{some_below}
 use Rattle.fdt_reserve.proofs.Entry.{refused-invalid, taken_valid}
 use Rattle.fdt_reserve.proofs.Overlap.{some_at, some_more}
-use Rattle.fdt_opening.specs.Opening.{some_invalid}
-use borrow.Author.Rules.{rules}
-use native.Mathlib.Omega.{arith}
+use Rattle.fdt_opening.specs.Opening.{count, some_invalid}
 use Rattle.fdt_opening.proofs.some_invalid.Goals as goal
 
 pub loop-i-init : goal.loop-i-init
 unfolding some_below
-loop-i-init c = (search rules, refl)
+loop-i-init c = refl
 
 pub returns-in-InvalidMemoryReservation : goal.returns-in-InvalidMemoryReservation
 unfolding some_invalid
@@ -23,13 +19,9 @@ returns-in-InvalidMemoryReservation c =
 
 pub loop-i-preserved : goal.loop-i-preserved
 loop-i-preserved c =
-    let l = c.loop-i in (
-      search rules,
-      some_more _ l.i l.invariant.1 (taken_valid _ _ _ _ c.entry_at-e.ensures c.new.ensures _ c.in_default.is),
-    )
+    some_more _ c.loop-i.i c.loop-i.invariant (taken_valid _ _ _ _ c.entry_at-e.ensures c.new.ensures _ c.in_default.is)
 
 pub returns : goal.returns
 unfolding some_invalid
 returns c =
-    let e : c.loop-i.i ≡ length c.args.mem_reservations.now / 2 = omega arith in
-    sym (rw e at c.loop-i.invariant.1)
+    let e : c.loop-i.i ≡ count c.args.mem_reservations.now = omega arith in sym (rw e at c.loop-i.invariant)
