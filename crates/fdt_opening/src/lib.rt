@@ -79,7 +79,7 @@ fn write_mem_rsvmap(blob: &mut [u8], mem_reservations: &[u64])
     ensures { blob.new ≡ splice 0 (opening_bytes mem_reservations.now) blob.old }
 {
     fdt_splice::zeros_at(blob, 0, Header::SIZE);
-    fdt_splice::wide_cells_at(blob, Header::SIZE, mem_reservations);
+    fdt_splice::cells_at(blob, Header::SIZE, mem_reservations);
     fdt_splice::zeros_at(
         blob,
         Header::SIZE + 8 * mem_reservations.len(),

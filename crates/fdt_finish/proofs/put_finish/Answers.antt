@@ -4,6 +4,7 @@ use Prim.Native.Nat.{◌+◌}
 use native.Mathlib.Omega.{arith}
 use lib.ListN.{length-take, length-drop}
 use lib.Seq.{length-take-le}
+use Rattle.fdt_bytes.specs.BigEndian.{cell_bytes}
 use Rattle.fdt_bytes.proofs.Splice.{lent}
 use Rattle.fdt_header.proofs.HeaderBytes.{words_by_start}
 use Rattle.fdt_format.specs.Tokens.{final_bytes}
@@ -19,7 +20,7 @@ pub put_final-requires : goal.put_final-requires
 put_final-requires c = simp (length-take, length-drop) (omega (arith, c.requires))
 
 pub returns : goal.returns
-unfolding used_strings
+unfolding used_strings cell_bytes
 returns c =
     let a = c.args in
     finished_by_parts a.w a.blob.now a.strings.now
