@@ -8,9 +8,8 @@ use native.Mathlib.Omega.{arith}
 use borrow.Author.Tests.{eqb-true, eqb-false, leb-true, leb-false}
 use lib.Dec.{eqb, leb}
 use Rattle.fdt_reserve.specs.declared.FdtReserveEntry.{FdtReserveEntry}
-use Rattle.fdt_reserve.specs.declared.Reserved.{Reserved}
-use Rattle.fdt_reserve.specs.declared.Reserved.TheVariants.{Entry, InvalidMemoryReservation}
-use Rattle.fdt_reserve.specs.Entry.{invalid, reserved, number_of, values_of}
+use Rattle.std.specs.Prelude.{Ok, Err}
+use Rattle.fdt_reserve.specs.Entry.{Reserved, invalid_reservation, invalid, reserved, number_of, values_of}
 use Rattle.fdt_reserve.specs.Overlap.{start, size, entry_at}
 
 module _ (address size : ℕ) where
@@ -20,7 +19,7 @@ module _ (address size : ℕ) where
   refused_exactly = go (eqb size 0) (leb (2 ^ 64) (address + size)) refl refl
     where
       go : (e l : Bool) → eqb size 0 ≡ e → leb (2 ^ 64) (address + size) ≡ l
-          → (number_of (cond (e || l) InvalidMemoryReservation (Entry (record { address = address; size = size }))) ≡ 8) ↔ ((size ≡ 0) ⊎ (2 ^ 64 ≤ address + size))
+          → (number_of (cond (e || l) (Err invalid_reservation) (Ok (record { address = address; size = size }))) ≡ 8) ↔ ((size ≡ 0) ⊎ (2 ^ 64 ≤ address + size))
       go true l p q = (λ h. inl (eqb-true size 0 p), λ h. refl)
       go false true p q = (λ h. inr (leb-true (2 ^ 64) (address + size) q), λ h. refl)
       go false false p q = (λ h. absurd (omega arith), λ h. absurd (neither h))
@@ -34,8 +33,8 @@ module _ (address size : ℕ) where
   unfolding reserved number_of values_of
   accepted-values = go (invalid address size)
     where
-      go : (b : Bool) → number_of (cond b InvalidMemoryReservation (Entry (record { address = address; size = size }))) ≡ 0
-          → values_of (cond b InvalidMemoryReservation (Entry (record { address = address; size = size }))) ≡ address ∷ size ∷ []
+      go : (b : Bool) → number_of (cond b (Err invalid_reservation) (Ok (record { address = address; size = size }))) ≡ 0
+          → values_of (cond b (Err invalid_reservation) (Ok (record { address = address; size = size }))) ≡ address ∷ size ∷ []
       go true h = absurd (omega arith)
       go false h = refl
 
@@ -46,20 +45,20 @@ one-reserved address size p q = p ∙ sym q
 -- The result of making reservation k, as read from the list.
 module _ (numbers : List ℕ) (k : ℕ) (entry : FdtReserveEntry) (answer : Reserved) (read : entry ≡ entry_at numbers k) (made : answer ≡ reserved entry.address entry.size) where
   -- the result by the definition's test
-  made_by : answer ≡ cond (invalid (start numbers k) (size numbers k)) InvalidMemoryReservation (Entry (entry_at numbers k))
+  made_by : answer ≡ cond (invalid (start numbers k) (size numbers k)) (Err invalid_reservation) (Ok (entry_at numbers k))
   unfolding reserved entry_at
   made_by = made ∙ ap (λ (e : FdtReserveEntry). reserved e.address e.size) read
 
-  pub refused-invalid : answer ≡ InvalidMemoryReservation → invalid (start numbers k) (size numbers k) ≡ true
+  pub refused-invalid : answer ≡ Err invalid_reservation → invalid (start numbers k) (size numbers k) ≡ true
   refused-invalid e = go (invalid (start numbers k) (size numbers k)) (sym made_by ∙ e)
     where
-      go : (b : Bool) → cond b InvalidMemoryReservation (Entry (entry_at numbers k)) ≡ InvalidMemoryReservation → b ≡ true
+      go : (b : Bool) → cond b (Err invalid_reservation) (Ok (entry_at numbers k)) ≡ Err invalid_reservation → b ≡ true
       go true e = refl
       go false e = cc
 
-  pub taken_valid : (f : FdtReserveEntry) → answer ≡ Entry f → invalid (start numbers k) (size numbers k) ≡ false
+  pub taken_valid : (f : FdtReserveEntry) → answer ≡ Ok f → invalid (start numbers k) (size numbers k) ≡ false
   taken_valid f e = go (invalid (start numbers k) (size numbers k)) (sym made_by ∙ e)
     where
-      go : (b : Bool) → cond b InvalidMemoryReservation (Entry (entry_at numbers k)) ≡ Entry f → b ≡ false
+      go : (b : Bool) → cond b (Err invalid_reservation) (Ok (entry_at numbers k)) ≡ Ok f → b ≡ false
       go true e = cc
       go false e = refl

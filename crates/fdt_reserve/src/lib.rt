@@ -6,31 +6,28 @@ ghost use Rattle.fdt_reserve.specs.Entry.{reserved};
 ghost use Rattle.fdt_reserve.specs.Overlap.{Overlap, entry_at, share};
 
 // A region of physical memory that the operating system must not use.
-#[derive(Clone, Copy)]
+#[derive(Clone, Copy, Debug, PartialEq, Eq)]
 pub struct FdtReserveEntry {
     pub address: u64,
     pub size: u64,
 }
 
-// The result of `FdtReserveEntry::new`.
-#[derive(Clone, Copy)]
-pub enum Reserved {
-    Entry(FdtReserveEntry),
-    InvalidMemoryReservation,
-}
+// Refusal 8: size 0, or address + size at least 2^64.
+#[derive(Clone, Copy, Debug, PartialEq, Eq)]
+pub struct InvalidMemoryReservation;
 
 impl FdtReserveEntry {
     // A reservation of `size` bytes from `address` on, or refusal 8.
-    pub fn new(address: u64, size: u64) -> Reserved
+    pub fn new(address: u64, size: u64) -> Result<FdtReserveEntry, InvalidMemoryReservation>
         ensures { result ≡ reserved address size }
     {
         if size == 0 {
-            return Reserved::InvalidMemoryReservation;
+            return Err(InvalidMemoryReservation);
         }
-        if 0xffff_ffff_ffff_ffff - address < size {
-            return Reserved::InvalidMemoryReservation;
+        if u64::MAX - address < size {
+            return Err(InvalidMemoryReservation);
         }
-        Reserved::Entry(FdtReserveEntry { address, size })
+        Ok(FdtReserveEntry { address, size })
     }
 }
 
@@ -51,6 +48,7 @@ fn share_address(one: FdtReserveEntry, other: FdtReserveEntry) -> bool
 }
 
 // Reservation `k` of a list of addresses and sizes in turn.
+#[tactic(auto, unfolding(crate::specs::Overlap::entry_at, crate::specs::Overlap::start, crate::specs::Overlap::size))]
 pub fn entry_at(mem_reservations: &[u64], k: usize) -> FdtReserveEntry
     requires { k < length mem_reservations.now / 2 }
     ensures { result ≡ entry_at mem_reservations.now k }
@@ -67,18 +65,14 @@ pub fn check_overlapping(mem_reservations: &[u64]) -> bool
 {
     let n = mem_reservations.len() / 2;
     let mut overlapping = false;
-    let mut i = 0;
-    'pairs: while i < n {
+    'pairs: for i in 0..n {
         let one = entry_at(mem_reservations, i);
-        let mut j = i + 1;
-        while j < n {
+        for j in i + 1..n {
             if share_address(one, entry_at(mem_reservations, j)) {
                 overlapping = true;
                 break 'pairs;
             }
-            j += 1;
         }
-        i += 1;
     }
     overlapping
 }
