@@ -13,10 +13,12 @@ use Rattle.fdt_bytes.specs.Splice.{splice}
 use Rattle.fdt_bytes.proofs.BigEndian.{length-cells}
 use Rattle.fdt_bytes.proofs.Padding.{length-zeros}
 use Rattle.fdt_bytes.proofs.Splice.{length-splice, splice-three}
-use Rattle.fdt_reserve.specs.Overlap.{Overlap}
+use Rattle.fdt_reserve.specs.Overlap.{Overlap, start, size, entry_at}
 use Rattle.fdt_reserve.proofs.Overlap.{overlapping_exact}
 use Rattle.fdt_header.specs.Header.{header_size, structure_start, reservation_bytes}
-use Rattle.std.specs.Prelude.{Err}
+use Rattle.std.specs.Prelude.{Ok, Err, is_err, cond}
+use Rattle.fdt_reserve.specs.declared.FdtReserveEntry.{FdtReserveEntry}
+use Rattle.fdt_reserve.specs.Entry.{Reserved, invalid, invalid_reservation, reserved}
 use Rattle.fdt_record.specs.declared.Error.{Error}
 use Rattle.fdt_record.specs.declared.Record.{Record}
 use Rattle.fdt_record.specs.Answers.{Done, accepts}
@@ -108,3 +110,13 @@ module _ (blob : List ℕ) (strings phandles : ℕ) (numbers : List ℕ) where
     result = ap (λ (x : Record). record { answer = Done; after = x }) f ∙ outcome-accepted _ _ e;
     bytes = w ∙ sym (accepted-blob e);
   }
+
+-- Reservation k, as read from the list, is refused exactly if the definition's test holds.
+module _ (numbers : List ℕ) (k : ℕ) (entry : FdtReserveEntry) (answer : Reserved) (read : entry ≡ entry_at numbers k) (made : answer ≡ reserved entry.address entry.size) where
+  pub refused_by_test : is_err answer ≡ invalid (start numbers k) (size numbers k)
+  unfolding reserved entry_at
+  refused_by_test = ap is_err (made ∙ ap (λ (e : FdtReserveEntry). reserved e.address e.size) read) ∙ go (invalid (start numbers k) (size numbers k))
+    where
+      go : (b : Bool) → is_err (cond b (Err invalid_reservation) (Ok (entry_at numbers k))) ≡ b
+      go true = refl
+      go false = refl

@@ -10,7 +10,7 @@ use fdt_header::Header;
 use fdt_record::{
     BLOB_CEILING, Error, MAX_RESERVATIONS, Outcome, PHANDLES_CEILING, Record, STRINGS_CEILING,
 };
-use fdt_reserve::{FdtReserveEntry, Reserved};
+use fdt_reserve::FdtReserveEntry;
 
 // Whether some reservation is refused.
 fn some_invalid(mem_reservations: &[u64]) -> bool
@@ -19,7 +19,7 @@ fn some_invalid(mem_reservations: &[u64]) -> bool
     let n = mem_reservations.len() / 2;
     for i in 0..n {
         let e = fdt_reserve::entry_at(mem_reservations, i);
-        if let Reserved::InvalidMemoryReservation = FdtReserveEntry::new(e.address, e.size) {
+        if FdtReserveEntry::new(e.address, e.size).is_err() {
             return true;
         }
     }
