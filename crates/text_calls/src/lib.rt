@@ -1,11 +1,7 @@
-// Call lists: what a line asks for, the values that it gives, and the message for a line that is wrong or refused.
+// Call lists: what a line asks for, and the nodes that are open after some lines.
 #![tactic(auto)]
 
-pub mod given;
 pub mod line;
-mod nodes;
-mod numbers;
-pub mod room;
-mod texts;
-pub mod told;
+pub mod nodes;
+mod values;
 pub mod verbs;

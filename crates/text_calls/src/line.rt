@@ -1,144 +1,177 @@
-// A line of a list: its call, its name and its values.
-use crate::numbers::Numbers;
-use crate::texts::Texts;
-use crate::{numbers, texts, verbs};
+// A line of a list: its call with what it is given.
+pub use crate::values::Strings;
+use crate::values::{Values, byte, cell, first_word, number};
+use crate::verbs::{Kind, Verb};
+use std::alloc::{AllocError, AllocFailed, Global};
+use std::fmt;
+use std::fmt::{Display, Formatter, Write};
 
-// The call; where its name begins and ends (a phandle's is the word `phandle`), and where its values begin; its last two numbers;
-// whether the line is right: a call in its form, or no call.
-#[derive(Clone, Copy)]
-pub struct Line {
-    pub verb: usize,
-    pub name: usize,
-    pub end: usize,
-    pub at: usize,
-    pub before: u64,
-    pub number: u64,
-    pub right: bool,
+// A call with what it is given.
+#[derive(Drop)]
+pub enum Call<'a> {
+    Reserve { address: u64, size: u64 },
+    Boot(u32),
+    Phandle(u32),
+    End,
+    Begin(&'a [u8]),
+    Property(&'a [u8], Value),
 }
 
-// Where the run of blanks at `from` ends or, without `blanks`, the run of other bytes.
-fn run_end(line: &[u8], from: usize, blanks: bool) -> usize {
-    let mut at = from;
-    while at < line.len() {
-        if numbers::blank(line[at]) != blanks {
-            return at;
+// The value of a property.
+#[derive(Drop)]
+pub enum Value {
+    Bytes(Vec<u8>),
+    Strings(Strings),
+    Cells(Vec<u32>),
+    WideCells(Vec<u64>),
+}
+
+// Why a line makes no call.
+#[derive(Clone, Copy, Debug, PartialEq, Eq)]
+pub enum Wrong {
+    // Its first word is none of the calls.
+    NoCall,
+    // It has another form than that of its call.
+    Form(Verb),
+    OutOfMemory,
+}
+
+impl Display for Wrong {
+    fn fmt<W: Write>(&self, f: &mut Formatter<W>) -> fmt::Result {
+        match self {
+            Wrong::NoCall => f.write_str(
+                "no such call: expected reserve, boot, begin, string, strings, u32, u64, bytes, null, phandle or end",
+            ),
+            Wrong::Form(verb) => {
+                let form = verb.form();
+                write!(f, "expected: {form}")
+            }
+            Wrong::OutOfMemory => f.write_str("out of memory"),
         }
-        at += 1;
-    }
-    at
-}
-
-// The numbers of a line from a place on, as if a blank followed the last.
-fn numbers_of(line: &[u8], from: usize, most: u64) -> Numbers {
-    let mut v = numbers::none();
-    let mut i = from;
-    while i < line.len() {
-        v = numbers::step(v, line[i], most);
-        i += 1;
-    }
-    numbers::step(v, b' ', most)
-}
-
-// The same for strings, or for bytes.
-fn texts_of(line: &[u8], from: usize, hex: bool) -> Texts {
-    let mut v = texts::none();
-    let mut i = from;
-    while i < line.len() {
-        v = texts::step(v, line[i], hex);
-        i += 1;
-    }
-    texts::step(v, b' ', hex)
-}
-
-// Whether a call takes this number of values.
-fn takes(verb: usize, count: usize) -> bool {
-    match verb {
-        verbs::END | verbs::BEGIN | verbs::NULL => count == 0,
-        verbs::BOOT | verbs::PHANDLE | verbs::STRING => count == 1,
-        verbs::RESERVE => count == 2,
-        verbs::NO_CALL => false,
-        _ => 0 < count,
     }
 }
 
-// The largest number that a call takes.
-fn most(verb: usize) -> u64 {
-    match verb {
-        verbs::U64 | verbs::RESERVE => 0xffff_ffff_ffff_ffff,
-        _ => 0xffff_ffff,
+impl From<AllocError> for Wrong {
+    fn from(_: AllocError) -> Wrong {
+        Wrong::OutOfMemory
     }
 }
 
-// A line without a carriage return at its end.
-fn cut(line: &[u8]) -> &[u8] {
-    if line.len() == 0 {
-        return line;
+impl<T: Drop> From<AllocFailed<T>> for Wrong {
+    fn from(_: AllocFailed<T>) -> Wrong {
+        Wrong::OutOfMemory
     }
-    let last = line.len() - 1;
-    let to = if line[last] == b'\r' {
-        last
-    } else {
-        line.len()
+}
+
+impl Call<'_> {
+    // What the call is named in a message.
+    pub fn name(&self) -> &'static str {
+        match self {
+            Call::Reserve { .. } => "reserve",
+            Call::Boot(_) => "boot",
+            Call::Phandle(_) => "phandle",
+            Call::End => "end",
+            Call::Begin(_) => "begin",
+            Call::Property(_, _) => "property",
+        }
+    }
+}
+
+// The word of a line's call and what follows it, if the line makes a call.
+pub(crate) fn head(line: &[u8]) -> Option<(&[u8], &[u8])> {
+    let line = line.strip_suffix(b"\n").unwrap_or(line);
+    let line = line.strip_suffix(b"\r").unwrap_or(line);
+    let (word, rest) = first_word(line);
+    match word {
+        [] | [b'#', ..] => None,
+        _ => Some((word, rest)),
+    }
+}
+
+// The name at the front of a text, and what follows it. `""` is the empty name.
+pub(crate) fn name(text: &[u8]) -> Option<(&[u8], &[u8])> {
+    let (word, rest) = first_word(text);
+    match word {
+        [] => None,
+        b"\"\"" => Some((&[], rest)),
+        _ => Some((word, rest)),
+    }
+}
+
+// The call of a line, if it makes one.
+pub fn read<'a>(alloc: Global, line: &'a [u8]) -> Result<Option<Call<'a>>, Wrong> {
+    let Some((word, text)) = head(line) else {
+        return Ok(None);
     };
-    text_words::part(line, 0, to)
-}
-
-// The line of a list that begins at this place.
-pub fn at(lines: &[u8], from: usize) -> &[u8] {
-    let rest = text_words::part(lines, from, lines.len());
-    cut(text_words::piece(rest, 0, b'\n'))
-}
-
-// The call of a line and its name; a line that makes no call is right.
-pub fn head(line: &[u8]) -> Line {
-    let from = run_end(line, 0, true);
-    let to = run_end(line, from, false);
-    let verb = verbs::of(text_words::part(line, from, to));
-    let name = if verb == verbs::PHANDLE {
-        from
-    } else {
-        run_end(line, to, true)
+    let Some(verb) = Verb::of(word) else {
+        return Err(Wrong::NoCall);
     };
-    let end = run_end(line, name, false);
-    Line {
-        verb,
-        name,
-        end,
-        at: if verb < verbs::BEGIN { to } else { end },
-        before: 0,
-        number: 0,
-        right: verb == verbs::BLANK,
-    }
+    Values { verb, text }.call(alloc).map(Some)
 }
 
-// What a line asks for.
-pub fn read(line: &[u8]) -> Line {
-    let mut l = head(line);
-    let verb = l.verb;
-    match verb {
-        verbs::BLANK => {}
-        verbs::STRING | verbs::STRINGS | verbs::BYTES => {
-            let t = texts_of(line, l.at, verb == verbs::BYTES);
-            l.right = texts::whole(t) && takes(verb, t.count);
-        }
-        _ => {
-            let n = numbers_of(line, l.at, most(verb));
-            l.before = n.before;
-            l.number = n.value;
-            l.right = numbers::whole(n)
-                && takes(verb, n.count)
-                && (verb < verbs::BEGIN || l.name < l.end);
+impl<'a> Values<'a> {
+    // The call with what the line gives it.
+    fn call(self, alloc: Global) -> Result<Call<'a>, Wrong> {
+        match self.verb {
+            Verb::Reserve => self.reservation(alloc),
+            Verb::Boot => Ok(Call::Boot(self.one(alloc)?)),
+            Verb::Phandle => Ok(Call::Phandle(self.one(alloc)?)),
+            Verb::End => {
+                self.none()?;
+                Ok(Call::End)
+            }
+            Verb::Begin => {
+                let (name, others) = self.named()?;
+                others.none()?;
+                Ok(Call::Begin(name))
+            }
+            Verb::Property(kind) => {
+                let (name, others) = self.named()?;
+                Ok(Call::Property(name, others.value(alloc, kind)?))
+            }
         }
     }
-    l
-}
 
-// The name of a line; `""` is the empty name.
-pub fn name(line: &[u8], from: usize, to: usize) -> &[u8] {
-    let word = text_words::part(line, from, to);
-    if word == b"\"\"".as_slice() {
-        text_words::part(word, 0, 0)
-    } else {
-        word
+    // A reservation: its address and its size.
+    fn reservation(self, alloc: Global) -> Result<Call<'a>, Wrong> {
+        match self.each(alloc, number)?.as_slice() {
+            [address, size] => Ok(Call::Reserve {
+                address: *address,
+                size: *size,
+            }),
+            _ => Err(self.wrong()),
+        }
+    }
+
+    // The name that comes first, and what follows it.
+    fn named(self) -> Result<(&'a [u8], Values<'a>), Wrong> {
+        match name(self.text) {
+            Some((name, text)) => Ok((name, Values { text, ..self })),
+            None => Err(self.wrong()),
+        }
+    }
+
+    // The value of a property.
+    fn value(self, alloc: Global, kind: Kind) -> Result<Value, Wrong> {
+        match kind {
+            Kind::Null => {
+                self.none()?;
+                Ok(Value::Bytes(Vec::new(alloc)))
+            }
+            Kind::Bytes => Ok(Value::Bytes(self.some(alloc, byte)?)),
+            Kind::U32 => Ok(Value::Cells(self.some(alloc, cell)?)),
+            Kind::U64 => Ok(Value::WideCells(self.some(alloc, number)?)),
+            Kind::String | Kind::Strings => self.string_value(alloc, kind),
+        }
+    }
+
+    // One string, or at least one.
+    fn string_value(self, alloc: Global, kind: Kind) -> Result<Value, Wrong> {
+        let strings = self.strings(alloc)?;
+        match strings.lengths.as_slice() {
+            [] => Err(self.wrong()),
+            [_, _, ..] if kind == Kind::String => Err(self.wrong()),
+            _ => Ok(Value::Strings(strings)),
+        }
     }
 }

@@ -1,74 +1,78 @@
 // The nodes that are open after some lines of a list. Every line is a call that was accepted, or no call.
-use crate::{line, verbs};
+use crate::line;
+use crate::verbs::Verb;
+use std::alloc::{AllocError, Global};
+use std::fmt;
+use std::fmt::{Display, Formatter, Write};
 
-// The most nodes that can be open at once.
-pub const DEEPEST: usize = 64;
+// The names of the open nodes, outermost first.
+#[derive(Drop)]
+pub struct Path<'a> {
+    names: Vec<&'a [u8]>,
+}
 
-// The open nodes, outermost first: where the line of each begin is, and how many there are. The number of the last line that gives
-// the property that is looked for; 0 if none does.
+// A name that the writer took, so it is ASCII.
 #[derive(Clone, Copy)]
-pub struct Nodes {
-    pub begins: [usize; DEEPEST],
-    pub depth: usize,
-    pub given: u64,
-}
+pub struct Name<'a>(pub &'a [u8]);
 
-// The nodes after a begin at this place.
-fn begun(mut v: Nodes, at: usize) -> Nodes {
-    let depth = v.depth;
-    if depth < DEEPEST {
-        v.begins[depth] = at;
-        v.depth = depth + 1;
+impl Display for Name<'_> {
+    fn fmt<W: Write>(&self, f: &mut Formatter<W>) -> fmt::Result {
+        for b in self.0 {
+            f.write_char(char::from(*b))?;
+        }
+        Ok(())
     }
-    v
 }
 
-// The nodes after an end.
-fn ended(mut v: Nodes) -> Nodes {
-    let depth = v.depth;
-    if 0 < depth {
-        v.depth = depth - 1;
-    }
-    v
-}
-
-// The nodes after line n, which is at this place.
-fn step(mut v: Nodes, n: u64, line: &[u8], at: usize, name: &[u8]) -> Nodes {
-    let l = line::head(line);
-    let verb = l.verb;
-    match verb {
-        verbs::BEGIN => begun(v, at),
-        verbs::END => ended(v),
-        verbs::RESERVE | verbs::BOOT | verbs::BLANK => v,
-        _ => {
-            if line::name(line, l.name, l.end) == name {
-                v.given = n;
+// A slash before each name. A root without a name is a slash alone, and adds nothing to the paths below it.
+impl Display for Path<'_> {
+    fn fmt<W: Write>(&self, f: &mut Formatter<W>) -> fmt::Result {
+        let alone = self.names.len() == 1;
+        for (k, name) in self.names.iter().enumerate() {
+            if 0 < k || !name.is_empty() || alone {
+                f.write_str("/")?;
             }
-            v
+            Name(name).fmt(f)?;
+        }
+        Ok(())
+    }
+}
+
+// The name of the property that a line gives, if it gives one.
+fn property(line: &[u8]) -> Option<&[u8]> {
+    let (word, text) = line::head(line)?;
+    match Verb::of(word)? {
+        Verb::Phandle => Some(word),
+        Verb::Property(_) => Some(line::name(text)?.0),
+        _ => None,
+    }
+}
+
+// The number of the last of the lines that gives a property of this name.
+pub fn given(lines: &[u8], name: &[u8]) -> Option<usize> {
+    let mut given = None;
+    for (n, line) in (1usize..).zip(lines.split_inclusive(|b| *b == b'\n')) {
+        if property(line) == Some(name) {
+            given = Some(n);
         }
     }
+    given
 }
 
-// The nodes that are open after all lines, and the last line that gives a property of this name.
-pub fn after(lines: &[u8], name: &[u8]) -> Nodes {
-    let mut v = Nodes {
-        begins: [0; DEEPEST],
-        depth: 0,
-        given: 0,
-    };
-    let mut at = 0;
-    let mut n: u64 = 0;
-    while at < lines.len() {
-        n = n.wrapping_add(1);
-        v = step(v, n, line::at(lines, at), at, name);
-        at = text_words::next(lines, at, b'\n');
+// The nodes that are open after lines.
+pub fn open<'a>(alloc: Global, lines: &'a [u8]) -> Result<Path<'a>, AllocError> {
+    let mut names = Vec::new(alloc);
+    for line in lines.split_inclusive(|b| *b == b'\n') {
+        let Some((word, text)) = line::head(line) else {
+            continue;
+        };
+        match (Verb::of(word), line::name(text)) {
+            (Some(Verb::Begin), Some((name, _))) => names.push(name)?,
+            (Some(Verb::End), _) => {
+                names.pop();
+            }
+            _ => {}
+        }
     }
-    v
-}
-
-// The name of the node whose begin is at this place.
-pub fn name(lines: &[u8], at: usize) -> &[u8] {
-    let line = line::at(lines, at);
-    let l = line::head(line);
-    line::name(line, l.name, l.end)
+    Ok(Path { names })
 }

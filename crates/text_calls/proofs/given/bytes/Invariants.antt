@@ -1,6 +1,0 @@
--- `given::bytes` ends: each turn comes nearer to the end of the line.
-use Rattle.std.proofs.Common.{◌-◌, length}
-use Rattle.text_calls.proofs.given.bytes.Given as goal
-
-abbrev pub decreases-loop-i : goal.decreases-loop-i
-decreases-loop-i l = length l.line - l.i

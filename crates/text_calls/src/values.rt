@@ -1,0 +1,233 @@
+// The values of a line: numbers, bytes in two hexadecimal digits each, and strings in double quotes.
+ghost use Rattle.std.specs.Prelude.{◌≤◌, ◌<◌, length, IfSome, IfOk};
+
+use crate::line::Wrong;
+use crate::verbs::Verb;
+use std::alloc::{AllocError, Global};
+
+// The most strings of a line, and the most bytes in them, that are kept. No blob has room for so many.
+const MOST: usize = 65_536;
+
+// Strings: their bytes one after the other, and how many of them each has.
+#[derive(Drop)]
+pub struct Strings {
+    pub bytes: Vec<u8>,
+    pub lengths: Vec<usize>,
+}
+
+// What a line gives to its call.
+#[derive(Clone, Copy)]
+pub(crate) struct Values<'a> {
+    pub verb: Verb,
+    pub text: &'a [u8],
+}
+
+impl Values<'_> {
+    // The line has another form than that of its call.
+    pub(crate) fn wrong(self) -> Wrong {
+        Wrong::Form(self.verb)
+    }
+
+    // Nothing, or a comment.
+    pub(crate) fn none(self) -> Result<(), Wrong> {
+        match trimmed(self.text) {
+            [] | [b'#', ..] => Ok(()),
+            _ => Err(self.wrong()),
+        }
+    }
+
+    // Each word up to a comment as a value.
+    pub(crate) fn each<T: Drop, F: Fn(&[u8]) -> Option<T>>(
+        self,
+        alloc: Global,
+        read: F,
+    ) -> Result<Vec<T>, Wrong>
+    where
+        F: Drop,
+        requires { F.IsAlwaysCallable read }
+    {
+        let mut values = Vec::new(alloc);
+        for word in self.text.split(|b| blank(*b)) {
+            if word.starts_with(b"#") {
+                break;
+            }
+            if !word.is_empty() {
+                let Some(value) = read(word) else {
+                    return Err(self.wrong());
+                };
+                values.push(value)?;
+            }
+        }
+        Ok(values)
+    }
+
+    // The same, at least one.
+    pub(crate) fn some<T: Drop, F: Fn(&[u8]) -> Option<T>>(
+        self,
+        alloc: Global,
+        read: F,
+    ) -> Result<Vec<T>, Wrong>
+    where
+        F: Drop,
+        requires { F.IsAlwaysCallable read }
+    {
+        let values = self.each(alloc, read)?;
+        if values.is_empty() {
+            return Err(self.wrong());
+        }
+        Ok(values)
+    }
+
+    // One number of 4 bytes.
+    pub(crate) fn one(self, alloc: Global) -> Result<u32, Wrong> {
+        match self.each(alloc, cell)?.as_slice() {
+            [n] => Ok(*n),
+            _ => Err(self.wrong()),
+        }
+    }
+
+    // The strings up to a comment.
+    pub(crate) fn strings(self, alloc: Global) -> Result<Strings, Wrong> {
+        let mut strings = Strings {
+            bytes: Vec::new(alloc),
+            lengths: Vec::new(alloc),
+        };
+        let mut rest = trimmed(self.text);
+        while let [b'"', text @ ..] = rest {
+            rest = self.string(text, &mut strings)?;
+        }
+        match rest {
+            [] | [b'#', ..] => Ok(strings),
+            _ => Err(self.wrong()),
+        }
+    }
+
+    // Adds the string at the front of a text, and returns what follows its closing quote and blanks.
+    fn string<'a>(self, text: &'a [u8], strings: &mut Strings) -> Result<&'a [u8], Wrong>
+        ensures { IfOk result (λ r. length r.now ≤ length text.now) }
+    {
+        let start = strings.bytes.len();
+        let mut rest = text;
+        loop {
+            if let [b'"', after @ ..] = rest {
+                strings.end(start)?;
+                return self.apart(after);
+            }
+            let Some((b, after)) = character(rest) else {
+                return Err(self.wrong());
+            };
+            strings.put(b)?;
+            rest = after;
+        }
+    }
+
+    // What follows a string, without the blanks at its front, of which there must be one before anything else.
+    fn apart<'a>(self, text: &'a [u8]) -> Result<&'a [u8], Wrong>
+        ensures { IfOk result (λ r. length r.now ≤ length text.now) }
+    {
+        match text {
+            [b, ..] if !blank(*b) => Err(self.wrong()),
+            _ => Ok(trimmed(text)),
+        }
+    }
+}
+
+impl Strings {
+    // Adds a byte of the string after the last, as long as it is kept.
+    fn put(&mut self, b: u8) -> Result<(), AllocError> {
+        if self.bytes.len() < MOST && self.lengths.len() < MOST {
+            self.bytes.push(b)?;
+        }
+        Ok(())
+    }
+
+    // Ends a string that begins at this place of the bytes.
+    fn end(&mut self, start: usize) -> Result<(), AllocError> {
+        if self.lengths.len() < MOST {
+            self.lengths.push(self.bytes.len().saturating_sub(start))?;
+        }
+        Ok(())
+    }
+}
+
+// Whether a byte separates words.
+fn blank(b: u8) -> bool {
+    b == b' ' || b == b'\t'
+}
+
+// A text without the blanks at its front.
+fn trimmed(text: &[u8]) -> &[u8]
+    ensures { length result.now ≤ length text.now }
+{
+    match text.iter().position(|b| !blank(*b)) {
+        Some(start) => &text[start..],
+        None => &[],
+    }
+}
+
+// The first word of a text, and what follows it.
+pub(crate) fn first_word(text: &[u8]) -> (&[u8], &[u8]) {
+    let text = trimmed(text);
+    let end = text.iter().position(|b| blank(*b));
+    text.split_at(end.unwrap_or(text.len()))
+}
+
+// A number: decimal, or hexadecimal after `0x`.
+pub(crate) fn number(word: &[u8]) -> Option<u64> {
+    let text = str::from_utf8(word).ok()?;
+    match text.strip_prefix("0x") {
+        Some(digits) if digits.bytes().all(|b| b.is_ascii_hexdigit()) => {
+            u64::from_str_radix(digits, 16).ok()
+        }
+        None if text.bytes().all(|b| b.is_ascii_digit()) => text.parse().ok(),
+        _ => None,
+    }
+}
+
+// A number of 4 bytes.
+pub(crate) fn cell(word: &[u8]) -> Option<u32> {
+    u32::try_from(number(word)?).ok()
+}
+
+// A byte in two hexadecimal digits.
+pub(crate) fn byte(word: &[u8]) -> Option<u8> {
+    match word {
+        [high, low] => Some(digit(*high)? << 4 | digit(*low)?),
+        _ => None,
+    }
+}
+
+// The value of a hexadecimal digit.
+fn digit(b: u8) -> Option<u8>
+    ensures { IfSome result (λ d. d < 16) }
+{
+    match b {
+        b'0'..=b'9' => Some(b - b'0'),
+        b'a'..=b'f' => Some(b - b'a' + 10),
+        b'A'..=b'F' => Some(b - b'A' + 10),
+        _ => None,
+    }
+}
+
+// The byte at the front of a string, or that its escape stands for, and what follows it.
+fn character(text: &[u8]) -> Option<(u8, &[u8])>
+    ensures { IfSome result (λ r. length r.1.now < length text.now) }
+{
+    match text {
+        [b'\\', b'x', high, low, rest @ ..] => Some((digit(*high)? << 4 | digit(*low)?, rest)),
+        [b'\\', escape, rest @ ..] => Some((escaped(*escape)?, rest)),
+        [] | [b'\\'] => None,
+        [b, rest @ ..] => Some((*b, rest)),
+    }
+}
+
+// The byte that a letter after a backslash stands for.
+fn escaped(letter: u8) -> Option<u8> {
+    match letter {
+        b'"' | b'\\' => Some(letter),
+        b'n' => Some(b'\n'),
+        b't' => Some(b'\t'),
+        b'0' => Some(0),
+        _ => None,
+    }
+}

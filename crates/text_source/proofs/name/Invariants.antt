@@ -1,6 +1,0 @@
--- `name` ends: each turn comes nearer to the end of the bytes.
-use Rattle.std.proofs.Common.{◌-◌, length}
-use Rattle.text_source.proofs.name.Given as goal
-
-abbrev pub decreases-loop-i : goal.decreases-loop-i
-decreases-loop-i l = length l.name - l.i
