@@ -4,16 +4,36 @@
 
 mod cause;
 mod entries;
-mod room;
+mod failure;
 mod tree;
 
-use fdt_reader::Surveyed;
+use cause::Cause;
+use entries::Entries;
+use failure::Failure;
+use fdt_reader::{ReadAnswer, Surveyed};
 use std::env::Env;
-use text_words::out;
-use text_words::out::{Out, Stream};
+use std::fmt::Display;
+use text_words::input;
+use tree::Tree;
 
-// The answer for a list that is too short, which no blob of 1,048,576 bytes gets.
-const SHORT_LIST: u32 = 30;
+// How many bytes are too many for a blob.
+const TOO_LONG: usize = 1_048_577;
+
+// Reads the blob and writes what it holds.
+fn main(rt: HostRuntime) {
+    let done = match input::read(&rt, TOO_LONG) {
+        Ok(blob) => read(&rt, &blob, entries_asked(&rt)),
+        Err(refused) => Err(Failure::Unread(refused)),
+    };
+    report(&rt, done);
+}
+
+// Says what went wrong.
+fn report(rt: &impl Eprint, done: Result<(), Failure>) {
+    if let Err(failure) = done {
+        let _ = rt.eprintln(failure);
+    }
+}
 
 // Whether the entries are asked for.
 fn entries_asked(rt: &impl Env) -> bool {
@@ -24,49 +44,41 @@ fn entries_asked(rt: &impl Env) -> bool {
     }
 }
 
-// Writes what is left of the output, and says so if it cannot be written.
-fn told(rt: &HostRuntime, o: Out) {
-    if !out::flush(rt, o) {
-        out::write_all(rt, Stream::Stderr, b"the output cannot be written\n");
-    }
+// Writes a text.
+fn show<D: Display + Drop>(rt: &impl Print, text: D) -> Result<(), Failure> {
+    rt.print(text).map_err(|_| Failure::Unwritten)
 }
 
 // Writes the tree of a blob, or the reader's entries.
-fn shown(rt: &HostRuntime, blob: &[u8], seen: Surveyed, list: &[u32], as_entries: bool) {
-    match seen {
-        Surveyed::Refused(fault) => cause::refused(rt, blob, fault),
-        Surveyed::Readable(a, reservations, entries) => {
-            if !as_entries {
-                told(rt, tree::all(rt, blob, a, reservations, entries, list));
+fn read<R: Print + Eprint + AllocGlobal>(
+    rt: &R,
+    blob: &[u8],
+    as_entries: bool,
+) -> Result<(), Failure> {
+    match fdt_reader::survey(blob) {
+        Surveyed::Readable(areas, reservations, entries) => {
+            let mut list = vec![in rt.alloc(); 0; entries.saturating_mul(4)]?;
+            let answer = fdt_reader::read(blob, &mut list);
+            let list = &list;
+            if as_entries {
+                return show(rt, Entries { answer, list });
             }
+            show(
+                rt,
+                Tree {
+                    blob,
+                    areas,
+                    reservations,
+                    list,
+                },
+            )
         }
-    }
-}
-
-// Writes what a blob holds.
-fn read(rt: &HostRuntime, blob: &[u8], as_entries: bool) {
-    let mut list = room::numbers();
-    let answer = fdt_reader::read(blob, &mut list);
-    if as_entries {
-        told(rt, entries::all(rt, &list, answer));
-    }
-    if fdt_reader::number(answer) == SHORT_LIST {
-        out::write_all(rt, Stream::Stderr, b"the blob has too many entries\n");
-        return;
-    }
-    shown(rt, blob, fdt_reader::survey(blob), &list, as_entries);
-}
-
-// Reads the blob and writes what it holds.
-fn main(rt: HostRuntime) {
-    let mut input = room::blob();
-    let n = text_words::input::read(
-        &rt,
-        &mut input,
-        b"the blob cannot be read\n",
-        b"the blob is longer than 1048576 bytes\n",
-    );
-    if n < 1_048_577 {
-        read(&rt, &input[..n], entries_asked(&rt));
+        Surveyed::Refused(fault) => {
+            if as_entries {
+                let answer = ReadAnswer::Refused(fault.refusal);
+                report(rt, show(rt, Entries { answer, list: &[] }));
+            }
+            Err(Failure::Refused(fault, Cause::of(blob, fault)))
+        }
     }
 }

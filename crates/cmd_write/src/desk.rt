@@ -1,60 +1,144 @@
-// The writer with its buffers, and what is kept from line to line.
+// The writer with its buffers, and what is kept from call to call.
+use fdt_nodes::FdtWriterNode;
+use fdt_record::{BLOB_CEILING, Error, PHANDLES_CEILING, STRINGS_CEILING};
 use fdt_writer::{Answered, FdtWriter};
+use std::alloc::{AllocError, AllocFailed, Global};
+use text_calls::line::{Call, Value};
 
-// The numbers of the reservations, with room for one reservation more than there can be.
-pub type Pairs = [u64; 130];
-
-// The writer; its buffers, each as long as its ceiling; the reservations so far, and how many numbers they are; whether
-// another call was made; and whether to stop because a line was wrong or refused: 0 if not.
-#[derive(Clone, Copy)]
+// The writer; its buffers, each as long as its ceiling; the reservations so far, two numbers each; and whether another call was
+// made.
+#[derive(Drop)]
 pub struct Desk {
-    pub writer: FdtWriter,
-    pub blob: [u8; 65_536],
-    pub strings: [u8; 8_192],
-    pub phandles: [u32; 256],
-    pub pairs: Pairs,
-    pub used: usize,
-    pub late: bool,
-    pub stop: u32,
+    writer: FdtWriter,
+    blob: Vec<u8>,
+    strings: Vec<u8>,
+    phandles: Vec<u32>,
+    reservations: Vec<u64>,
+    late: bool,
 }
 
-// The first numbers of a table.
-fn front(pairs: &Pairs, used: usize) -> &[u64] {
-    let all = &pairs[..];
-    let from = 0;
-    if used < all.len() {
-        &all[from..used]
-    } else {
-        all
+// Why a call is not made.
+#[derive(Clone, Copy, Debug, PartialEq, Eq)]
+pub enum Stop {
+    // A reservation after another call.
+    Late,
+    Refused(Error),
+    OutOfMemory,
+}
+
+impl From<Error> for Stop {
+    fn from(error: Error) -> Stop {
+        Stop::Refused(error)
     }
 }
 
-// A desk whose writer is opened with reservations.
-pub fn opened(pairs: Pairs, used: usize) -> Desk {
-    let mut blob = text_calls::room::bytes();
-    let strings = text_calls::room::names();
-    let phandles = [0; 256];
-    let a = FdtWriter::new_with_mem_reserv(&mut blob, &strings, &phandles, front(&pairs, used));
-    let writer = a.writer;
-    let answer = a.answer;
-    Desk {
-        writer,
-        blob,
-        strings,
-        phandles,
-        pairs,
-        used,
-        late: false,
-        stop: fdt_record::number(answer),
+impl From<AllocFailed<u64>> for Stop {
+    fn from(_: AllocFailed<u64>) -> Stop {
+        Stop::OutOfMemory
     }
 }
 
-// The desk after an answer.
-pub fn answered(mut d: Desk, a: Answered) -> Desk {
-    let writer = a.writer;
-    let answer = a.answer;
-    d.writer = writer;
-    d.late = true;
-    d.stop = fdt_record::number(answer);
-    d
+impl Desk {
+    // A desk whose writer is opened without reservations.
+    pub fn new(alloc: Global) -> Result<Desk, AllocError> {
+        let mut blob = vec![in alloc; 0; BLOB_CEILING]?;
+        let strings = vec![in alloc; 0; STRINGS_CEILING]?;
+        let phandles = vec![in alloc; 0; PHANDLES_CEILING]?;
+        let opened = FdtWriter::new(&mut blob, &strings, &phandles);
+        Ok(Desk {
+            writer: opened.writer,
+            blob,
+            strings,
+            phandles,
+            reservations: Vec::new(alloc),
+            late: false,
+        })
+    }
+
+    // Makes a call.
+    pub fn make(&mut self, call: &Call) -> Result<(), Stop> {
+        match call {
+            Call::Reserve { address, size } => return self.reserve(*address, *size),
+            Call::Boot(n) => self.answered(self.writer.set_boot_cpuid_phys(*n))?,
+            Call::Phandle(n) => self.phandle(*n)?,
+            Call::End => self.end()?,
+            Call::Begin(name) => self.begin(name)?,
+            Call::Property(name, value) => self.property(name, value)?,
+        }
+        Ok(())
+    }
+
+    // Finishes the blob, and shows it.
+    pub fn finish(&mut self) -> Result<&[u8], Error> {
+        let finished = self.writer.finish(&mut self.blob, &self.strings);
+        self.answered(finished)?;
+        Ok(self.writer.show(&self.blob))
+    }
+
+    // Keeps the writer of an answer.
+    fn answered(&mut self, answered: Answered) -> Result<(), Error> {
+        self.writer = answered.writer;
+        self.late = true;
+        answered.answer
+    }
+
+    // Opens the writer again, with one reservation more.
+    fn reserve(&mut self, address: u64, size: u64) -> Result<(), Stop> {
+        if self.late {
+            return Err(Stop::Late);
+        }
+        self.reservations.push(address)?;
+        self.reservations.push(size)?;
+        let opened = FdtWriter::new_with_mem_reserv(
+            &mut self.blob,
+            &self.strings,
+            &self.phandles,
+            &self.reservations,
+        );
+        self.writer = opened.writer;
+        Ok(opened.answer?)
+    }
+
+    // Gives the node a phandle.
+    fn phandle(&mut self, n: u32) -> Result<(), Error> {
+        let answered = self
+            .writer
+            .property_phandle(&mut self.blob, &mut self.strings, &mut self.phandles, n);
+        self.answered(answered)
+    }
+
+    // Begins a node.
+    fn begin(&mut self, name: &[u8]) -> Result<(), Error> {
+        let begun = self.writer.begin_node(&mut self.blob, name);
+        self.writer = begun.writer;
+        self.late = true;
+        begun.answer?;
+        Ok(())
+    }
+
+    // Ends the node that was begun last: its handle is the depth.
+    fn end(&mut self) -> Result<(), Error> {
+        let node = FdtWriterNode(self.writer.0.node_depth);
+        let ended = self.writer.end_node(&mut self.blob, node);
+        self.answered(ended)
+    }
+
+    // Gives the node a property.
+    fn property(&mut self, name: &[u8], value: &Value) -> Result<(), Error> {
+        let Desk {
+            writer,
+            blob,
+            strings,
+            ..
+        } = self;
+        let answered = match value {
+            Value::Bytes(bytes) => writer.property(blob, strings, name, bytes),
+            Value::Strings(texts) => {
+                writer.property_string_list(blob, strings, name, &texts.bytes, &texts.lengths)
+            }
+            Value::Cells(numbers) => writer.property_array_u32(blob, strings, name, numbers),
+            Value::WideCells(numbers) => writer.property_array_u64(blob, strings, name, numbers),
+        };
+        self.answered(answered)
+    }
 }

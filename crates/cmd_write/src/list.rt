@@ -1,70 +1,77 @@
 // The lines of a list in turn, and the finish at its end.
-use crate::desk::Desk;
-use crate::{calls, desk};
-use text_calls::line::Line;
-use text_calls::{line, told, verbs};
-use text_words::out;
-use text_words::out::Stream;
-
-// Says that line n is no call, and stops.
-fn wrong(rt: &HostRuntime, mut d: Desk, n: u64, form: usize) -> Desk {
-    told::wrong(rt, n, form);
-    d.stop = 1;
-    d
-}
-
-// Makes the call of line n; says what is wrong with it, or why it is refused. `before` are the lines before it.
-fn run_line(rt: &HostRuntime, d: Desk, n: u64, before: &[u8], line: &[u8], l: Line) -> Desk {
-    if !l.right {
-        return wrong(rt, d, n, l.verb);
-    }
-    if d.late && l.verb == verbs::RESERVE {
-        return wrong(rt, d, n, told::LATE);
-    }
-    let next = calls::run(d, line, l);
-    if next.stop == told::TWICE {
-        told::twice(rt, n, l.verb, before, line::name(line, l.name, l.end));
-    } else if next.stop != 0 {
-        told::refused(rt, n, l.verb, next.stop);
-    }
-    next
-}
-
-// Finishes the blob and writes it.
-fn finish(rt: &HostRuntime, d: Desk, n: u64) {
-    let mut blob = d.blob;
-    let strings = d.strings;
-    let w = d.writer;
-    let a = w.finish(&mut blob, &strings);
-    let answer = a.answer;
-    let refusal = fdt_record::number(answer);
-    if refusal != 0 {
-        told::refused(rt, n, verbs::BLANK, refusal);
-        return;
-    }
-    let shown = a.writer;
-    if !out::write_all(rt, Stream::Stdout, shown.show(&blob)) {
-        told::text(rt, b"the blob cannot be written\n");
-    }
-}
+use crate::desk::{Desk, Stop};
+use crate::failure::{Cause, Failure};
+use fdt_record::Error;
+use std::alloc::Global;
+use text_calls::line::Call;
+use text_calls::{line, nodes};
 
 // Makes the calls of a list, finishes the blob and writes it; a line that is wrong or refused ends this.
-pub fn run(rt: &HostRuntime, lines: &[u8]) {
-    let mut d = desk::opened([0; 130], 0);
-    let mut at = 0;
-    let mut n: u64 = 0;
-    while at < lines.len() {
-        let before = text_words::part(lines, 0, at);
-        let line = line::at(lines, at);
-        at = text_words::next(lines, at, b'\n');
-        n = n.wrapping_add(1);
-        let l = line::read(line);
-        if l.verb != verbs::BLANK {
-            d = run_line(rt, d, n, before, line, l);
-            if d.stop != 0 {
-                return;
-            }
+pub fn run<'a, R: Print + AllocGlobal>(rt: &R, list: &'a [u8]) -> Result<(), Failure<'a>> {
+    let mut desk = Desk::new(rt.alloc())?;
+    let mut last = 0;
+    for (line, text) in (1..).zip(list.split_inclusive(|b| *b == b'\n')) {
+        if let Err(cause) = run_line(rt.alloc(), &mut desk, list, last, text) {
+            return Err(Failure::Line { line, cause });
         }
+        last = line;
     }
-    finish(rt, d, n);
+    match desk.finish() {
+        Ok(blob) => rt.write_all(blob).map_err(|_| Failure::Unwritten),
+        Err(error) => Err(Failure::Line {
+            line: last,
+            cause: Cause::Refused {
+                call: "finish",
+                error,
+            },
+        }),
+    }
+}
+
+// Makes the call of a line, after `before` lines of the list.
+fn run_line<'a>(
+    alloc: Global,
+    desk: &mut Desk,
+    list: &'a [u8],
+    before: usize,
+    line: &'a [u8],
+) -> Result<(), Cause<'a>> {
+    match line::read(alloc, line) {
+        Ok(None) => Ok(()),
+        Ok(Some(call)) => match desk.make(&call) {
+            Ok(()) => Ok(()),
+            Err(Stop::Late) => Err(Cause::Late),
+            Err(Stop::OutOfMemory) => Err(Cause::OutOfMemory),
+            Err(Stop::Refused(error)) => Err(refused(alloc, list, before, &call, error)),
+        },
+        Err(wrong) => Err(Cause::Wrong(wrong)),
+    }
+}
+
+// Why a call is refused, after `before` lines of the list.
+fn refused<'a>(
+    alloc: Global,
+    list: &'a [u8],
+    before: usize,
+    call: &Call<'a>,
+    error: Error,
+) -> Cause<'a> {
+    if error == Error::DuplicateProperty
+        && let Some(name) = call.property()
+        && let Some(given) = nodes::given(list, before, name)
+    {
+        return match nodes::open(alloc, list, before) {
+            Ok(path) => Cause::Twice {
+                call: call.name(),
+                path,
+                name,
+                given,
+            },
+            Err(_) => Cause::OutOfMemory,
+        };
+    }
+    Cause::Refused {
+        call: call.name(),
+        error,
+    }
 }

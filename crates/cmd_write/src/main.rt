@@ -2,20 +2,26 @@
 // the finished blob goes to standard output; if the list is wrong or refused, one line goes to standard error instead.
 #![tactic(auto)]
 
-mod calls;
 mod desk;
+mod failure;
 mod list;
 
-// Reads the list and runs it.
+use failure::Failure;
+use text_words::input;
+
+// How many bytes are too many for a list.
+const TOO_LONG: usize = 1_048_576;
+
+// Reads the list and runs it, and says why there is no blob.
 fn main(rt: HostRuntime) {
-    let mut input = text_words::input::room();
-    let n = text_words::input::read(
-        &rt,
-        &mut input,
-        b"the list cannot be read\n",
-        b"the list is longer than 1048575 bytes\n",
-    );
-    if n < 1_048_576 {
-        list::run(&rt, &input[..n]);
+    match input::read(&rt, TOO_LONG) {
+        Ok(list) => {
+            if let Err(failure) = list::run(&rt, &list) {
+                let _ = rt.eprintln(failure);
+            }
+        }
+        Err(refused) => {
+            let _ = rt.eprintln(Failure::Unread(refused));
+        }
     }
 }

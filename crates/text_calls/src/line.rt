@@ -1,10 +1,11 @@
 // A line of a list: its call with what it is given.
 pub use crate::values::Strings;
-use crate::values::{Values, byte, cell, first_word, number};
+use crate::values::{Values, byte, cell, first_word};
 use crate::verbs::{Kind, Verb};
 use std::alloc::{AllocError, AllocFailed, Global};
 use std::fmt;
 use std::fmt::{Display, Formatter, Write};
+use text_words::number;
 
 // A call with what it is given.
 #[derive(Drop)]
@@ -63,7 +64,7 @@ impl<T: Drop> From<AllocFailed<T>> for Wrong {
     }
 }
 
-impl Call<'_> {
+impl<'a> Call<'a> {
     // What the call is named in a message.
     pub fn name(&self) -> &'static str {
         match self {
@@ -73,6 +74,15 @@ impl Call<'_> {
             Call::End => "end",
             Call::Begin(_) => "begin",
             Call::Property(_, _) => "property",
+        }
+    }
+
+    // The name of the property that the call gives.
+    pub fn property(&self) -> Option<&'a [u8]> {
+        match self {
+            Call::Phandle(_) => Some(b"phandle"),
+            Call::Property(name, _) => Some(*name),
+            _ => None,
         }
     }
 }

@@ -48,21 +48,19 @@ fn property(line: &[u8]) -> Option<&[u8]> {
     }
 }
 
-// The number of the last of the lines that gives a property of this name.
-pub fn given(lines: &[u8], name: &[u8]) -> Option<usize> {
-    let mut given = None;
-    for (n, line) in (1usize..).zip(lines.split_inclusive(|b| *b == b'\n')) {
-        if property(line) == Some(name) {
-            given = Some(n);
-        }
-    }
-    given
+// The number of the last of the first `count` lines that gives a property of this name.
+pub fn given(list: &[u8], count: usize, name: &[u8]) -> Option<usize> {
+    (1..)
+        .zip(list.split_inclusive(|b| *b == b'\n').take(count))
+        .filter(|(_, line)| property(line) == Some(name))
+        .map(|(n, _)| n)
+        .last()
 }
 
-// The nodes that are open after lines.
-pub fn open<'a>(alloc: Global, lines: &'a [u8]) -> Result<Path<'a>, AllocError> {
+// The nodes that are open after the first `count` lines.
+pub fn open<'a>(alloc: Global, list: &'a [u8], count: usize) -> Result<Path<'a>, AllocError> {
     let mut names = Vec::new(alloc);
-    for line in lines.split_inclusive(|b| *b == b'\n') {
+    for line in list.split_inclusive(|b| *b == b'\n').take(count) {
         let Some((word, text)) = line::head(line) else {
             continue;
         };

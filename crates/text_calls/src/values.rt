@@ -4,6 +4,7 @@ ghost use Rattle.std.specs.Prelude.{◌≤◌, ◌<◌, length, IfSome, IfOk};
 use crate::line::Wrong;
 use crate::verbs::Verb;
 use std::alloc::{AllocError, Global};
+use text_words::{digit, number};
 
 // The most strings of a line, and the most bytes in them, that are kept. No blob has room for so many.
 const MOST: usize = 65_536;
@@ -172,18 +173,6 @@ pub(crate) fn first_word(text: &[u8]) -> (&[u8], &[u8]) {
     text.split_at(end.unwrap_or(text.len()))
 }
 
-// A number: decimal, or hexadecimal after `0x`.
-pub(crate) fn number(word: &[u8]) -> Option<u64> {
-    let text = str::from_utf8(word).ok()?;
-    match text.strip_prefix("0x") {
-        Some(digits) if digits.bytes().all(|b| b.is_ascii_hexdigit()) => {
-            u64::from_str_radix(digits, 16).ok()
-        }
-        None if text.bytes().all(|b| b.is_ascii_digit()) => text.parse().ok(),
-        _ => None,
-    }
-}
-
 // A number of 4 bytes.
 pub(crate) fn cell(word: &[u8]) -> Option<u32> {
     u32::try_from(number(word)?).ok()
@@ -193,18 +182,6 @@ pub(crate) fn cell(word: &[u8]) -> Option<u32> {
 pub(crate) fn byte(word: &[u8]) -> Option<u8> {
     match word {
         [high, low] => Some(digit(*high)? << 4 | digit(*low)?),
-        _ => None,
-    }
-}
-
-// The value of a hexadecimal digit.
-fn digit(b: u8) -> Option<u8>
-    ensures { IfSome result (λ d. d < 16) }
-{
-    match b {
-        b'0'..=b'9' => Some(b - b'0'),
-        b'a'..=b'f' => Some(b - b'a' + 10),
-        b'A'..=b'F' => Some(b - b'A' + 10),
         _ => None,
     }
 }

@@ -1,7 +1,0 @@
--- `room::numbers` is as long as it says: its elements are not counted.
-use Rattle.std.proofs.Common.{ℕ, sym}
-use Rattle.std.proofs.lemmas.List.{length-replicate}
-use Rattle.cmd_read.proofs.room.numbers.Goals as goal
-
-pub returns : goal.returns
-returns c = sym (length-replicate {0} {A = ℕ} 699048 0)

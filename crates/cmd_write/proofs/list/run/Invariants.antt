@@ -1,9 +1,0 @@
--- `list::run` is safe and ends: each turn comes nearer to the end of the lines.
-use Rattle.std.proofs.Common.{◌-◌, ◌≤◌, length}
-use Rattle.cmd_write.proofs.list.run.Given as goal
-
-abbrev pub invariant-loop-at : goal.invariant-loop-at
-invariant-loop-at l = l.at ≤ length l.lines
-
-abbrev pub decreases-loop-at : goal.decreases-loop-at
-decreases-loop-at l = length l.lines - l.at
