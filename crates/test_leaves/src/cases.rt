@@ -1,6 +1,6 @@
 // A case is a line: the words that are written again before the answer, and after a bar what else the leaf is given.
 use crate::{buffers, strings};
-use fdt_reserve::{FdtReserveEntry, Reserved};
+use fdt_reserve::{FdtReserveEntry, InvalidMemoryReservation};
 use std::alloc::{AllocError, Global};
 use std::io;
 use std::io::Write;
@@ -22,8 +22,8 @@ fn told(out: &mut impl Write, passed: bool, refusal: u32) -> io::Result<()> {
 // Makes one reservation. 99 if it has another address or size.
 fn reservation(out: &mut impl Write, address: u64, size: u64) -> io::Result<()> {
     match FdtReserveEntry::new(address, size) {
-        Reserved::Entry(e) => told(out, e.address == address && e.size == size, 99),
-        Reserved::InvalidMemoryReservation => told(out, false, 8),
+        Ok(e) => told(out, e.address == address && e.size == size, 99),
+        Err(InvalidMemoryReservation) => told(out, false, 8),
     }
 }
 

@@ -38,3 +38,28 @@ pub fn numbers(
         .map(value)
         .collect(alloc)
 }
+
+// The same as numbers of 32 bits.
+pub fn cells(alloc: Global, line: &[u8], first: usize, most: usize) -> Result<Vec<u32>, AllocError>
+    ensures { IfOk result (λ v. vec_len v ≤ most) }
+{
+    numbers(alloc, line, first, most)?
+        .iter()
+        .map(|n| low(*n))
+        .collect(alloc)
+}
+
+// The same as lengths.
+pub fn lengths(
+    alloc: Global,
+    line: &[u8],
+    first: usize,
+    most: usize,
+) -> Result<Vec<usize>, AllocError>
+    ensures { IfOk result (λ v. vec_len v ≤ most) }
+{
+    numbers(alloc, line, first, most)?
+        .iter()
+        .map(|n| *n as usize)
+        .collect(alloc)
+}
