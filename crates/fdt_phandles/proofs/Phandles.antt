@@ -1,46 +1,30 @@
 -- Laws of recording a phandle: one turn of the search, exactly when each answer is given, what passing shows, and where the table changes.
 use mathlib.Core.Path.{◌≡◌, refl, ap, ◌∙◌}
 use mathlib.Core.Bool.{Bool, true, false, cond, ◌||◌}
-use mathlib.Core.List.{List}
+use mathlib.Core.List.{List, [], ◌∷◌}
 use mathlib.Core.Logic.{◌≢◌}
-use Prim.Native.Nat.{ℕ, ◌+◌, ◌≤◌, ◌<◌}
-use native.Mathlib.Numerals.{add-one}
+use Prim.Native.Nat.{ℕ, ◌<◌}
 use native.Mathlib.Omega.{arith}
 use borrow.Author.Tests.{leb-false}
 use lib.Dec.{eqb}
-use lib.ListN.{length, get_or, take, drop, set, length-set}
-use lib.Seq.{drop-cons, get_or-take, get_or-set_same, get_or-set_other, length-take-le}
+use lib.ListN.{length, get_or, set, length-set}
+use lib.Seq.{get_or-set_same, get_or-set_other}
 use Rattle.fdt_names.specs.Names.{one_of}
-use Rattle.fdt_record.specs.declared.Answer.{Answer}
-use Rattle.fdt_record.specs.declared.Answer.TheVariants.{Done}
-use Rattle.fdt_record.specs.declared.Outcome.{Outcome}
+use Rattle.std.specs.Prelude.{nat_eq}
+use Rattle.std.specs.List.{list_any}
 use Rattle.fdt_record.specs.declared.Record.{Record}
-use Rattle.fdt_record.specs.Answers.{accepts, upon}
+use Rattle.fdt_record.specs.Answers.{Done, accepts}
 use Rattle.fdt_record.specs.Tests.{alone_rows, blob_rows, strings_rows}
-use Rattle.fdt_record.proofs.Answers.{upon-done, left-refused}
+use Rattle.fdt_record.proofs.Answers.{upon-done}
 use Rattle.fdt_record.proofs.Fits.{FitPhandles, fit_phandles}
-use Rattle.fdt_record.proofs.Rows.{all_answers, Refusals, ByName, by_name, Exactly, exactly}
+use Rattle.fdt_record.proofs.Rows.{ByName, by_name, Exactly, exactly}
 use Rattle.fdt_phandles.specs.Phandle.{record_rows, record_answer, phandle_table}
 
--- the entry that a search at i tests, and the entries after it
-pub next_entry :
-    (table : List ℕ) (count value i : ℕ) →
-    count ≤ length table →
-    i < count →
-    one_of (drop i (take count table)) value ≡ (eqb (get_or table i 0) value || one_of (drop (i + 1) (take count table)) value)
+-- the search in the library's words
+pub one_of_any : (values : List ℕ) (value : ℕ) → one_of values value ≡ list_any (λ y. nat_eq y value) values
 unfolding one_of
-next_entry table count value i within h =
-    let n : i < length (take count table) = omega (arith, length-take-le count table within) in
-    rw (drop-cons (take count table) i 0 n, add-one, get_or-take count table i 0 h)
-
--- a first test that failed leaves the second
-pub or_past : (a b : Bool) → a ≡ false → (a || b) ≡ b
-or_past a b e = simp e
-
--- every answer of the rows is a refusal
-refusals : (w : Record) (lent : ℕ) (strings table : List ℕ) (value : ℕ) → Refusals (record_rows w lent strings table value)
-unfolding record_rows strings_rows blob_rows alone_rows all_answers Refusals accepts
-refusals w lent strings table value = refl
+one_of_any [] value = refl
+one_of_any (one ∷ more) value = ap (λ b. nat_eq one value || b) (one_of_any more value)
 
 -- what holds if a value may be recorded, in a table of this length
 pub record RecordFits (w : Record) (entries : ℕ) : Type 0 where
@@ -55,7 +39,7 @@ either f false x y z p q = q
 module _ (w : Record) (lent : ℕ) (strings table : List ℕ) (value : ℕ) where
   pub record_exactly : Exactly (record_rows w lent strings table value) (record_answer w lent strings table value)
   unfolding record_answer
-  record_exactly = exactly (record_rows w lent strings table value) (refusals w lent strings table value)
+  record_exactly = exactly (record_rows w lent strings table value)
 
   pub record_fits : record_answer w lent strings table value ≡ Done → RecordFits w (length table)
   unfolding record_rows strings_rows blob_rows alone_rows ByName
@@ -84,14 +68,3 @@ module _ (w : Record) (lent : ℕ) (strings table : List ℕ) (value : ℕ) wher
   unfolding phandle_table
   table_length =
       either length (accepts (record_answer w lent strings table value)) (set table w.phandles_used value) table (length table) (length-set table w.phandles_used value) refl
-
--- the outcome of a refusal: its answer, with the record as it was
-pub refused-outcome :
-    (a b : Answer) (told : a ≡ b) (accepted : Outcome) (w : Record) →
-    accepts a ≡ false →
-    ◌≡◌ {A = Outcome} (record { answer = a; after = w }) (upon b accepted (record { answer = b; after = w }))
-refused-outcome a b told accepted w t =
-    ap gives told ∙ left-refused a b told accepted (gives b) t
-  where
-    gives : Answer → Outcome
-    gives c = record { answer = c; after = w }

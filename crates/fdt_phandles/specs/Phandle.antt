@@ -2,11 +2,10 @@
 use Rattle.std.specs.Prelude.{◌≡◌, List, [], ◌∷◌, ◌++◌, ℕ, ◌+◌, leb, length, take, set}
 use Rattle.fdt_names.specs.Names.{one_of}
 use Rattle.fdt_values.specs.Value.{Value, cells}
-use Rattle.fdt_record.specs.declared.Answer.{Answer}
-use Rattle.fdt_record.specs.declared.Answer.TheVariants.{Misfit, DuplicatePhandle, PhandleRoom}
+use Rattle.fdt_record.specs.declared.Error.TheVariants.{Misfit, DuplicatePhandle, PhandleRoom}
 use Rattle.fdt_record.specs.declared.Outcome.{Outcome}
 use Rattle.fdt_record.specs.declared.Record.{Record}
-use Rattle.fdt_record.specs.Answers.{upon}
+use Rattle.fdt_record.specs.Answers.{Answer, upon}
 use Rattle.fdt_record.specs.Fields.{with_used_phandles}
 use Rattle.fdt_record.specs.Misfits.{misfit_phandles}
 use Rattle.fdt_record.specs.Rows.{Row, ◌⇒◌, first}
@@ -39,7 +38,7 @@ unfoldable pub recorded : Record → Record
 recorded w = with_used_phandles (w.phandles_used + 1) w
 
 -- the answer and the record: refused before the value is recorded, or what the property gives after it
-unfoldable pub phandle : Record → List ℕ → List ℕ → List ℕ → ℕ → Outcome
+unfoldable pub phandle : Record → List ℕ → List ℕ → List ℕ → ℕ → Outcome (Unit {0})
 phandle w blob strings table value =
     upon (record_answer w (length blob) strings table value)
     (property (recorded w) blob strings phandle_name (phandle_value value))
@@ -65,7 +64,7 @@ phandle_table w lent strings table value =
     upon (record_answer w lent strings table value) (set table w.phandles_used value) table
 
 -- the outcome of a call
-pub record PhandleOutcome (w : Record) (blob strings table : List ℕ) (value : ℕ) (r : Outcome) (blobAfter stringsAfter tableAfter : List ℕ) : Type 0 where
+pub record PhandleOutcome (w : Record) (blob strings table : List ℕ) (value : ℕ) (r : Outcome (Unit {0})) (blobAfter stringsAfter tableAfter : List ℕ) : Type 0 where
   pub result : r ≡ phandle w blob strings table value
   pub bytes : blobAfter ≡ phandle_blob w blob strings table value
   pub names : stringsAfter ≡ phandle_strings w blob strings table value

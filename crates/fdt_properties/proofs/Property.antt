@@ -1,34 +1,24 @@
 -- Laws of a property's tests: exactly when each answer is given, and what an accepted one passed.
-use mathlib.Core.Path.{◌≡◌, refl}
-use mathlib.Core.Bool.{Bool, false}
-use mathlib.Core.List.{List, ◌++◌}
+use mathlib.Core.Path.{◌≡◌}
+use mathlib.Core.Bool.{false}
+use mathlib.Core.List.{List}
 use Prim.Native.Nat.{ℕ, ◌+◌, ◌≤◌, ◌<◌}
 use native.Mathlib.Omega.{arith}
 use borrow.Author.Tests.{eqb-false}
 use lib.ListN.{length}
 use Rattle.fdt_names.specs.Names.{has_zero}
 use Rattle.fdt_values.specs.Value.{Value, misfit_value}
-use Rattle.fdt_record.specs.declared.Answer.TheVariants.{Done}
 use Rattle.fdt_record.specs.declared.Record.{Record}
-use Rattle.fdt_record.specs.Answers.{accepts}
+use Rattle.fdt_record.specs.Answers.{Done}
 use Rattle.fdt_record.specs.Tests.{alone_rows, blob_rows, strings_rows}
 use Rattle.fdt_record.proofs.Fits.{FitRecord, fit_record, FitBlob, fit_blob, FitStrings, fit_strings, not_overfull}
-use Rattle.fdt_record.proofs.Rows.{all_answers, Refusals, ByName, by_name, Exactly, exactly}
+use Rattle.fdt_record.proofs.Rows.{ByName, by_name, Exactly, exactly}
 use Rattle.fdt_properties.specs.Property.{place_of, is_full, is_repeated, written, property_record, state_rows, name_rows, place_rows, property_rows, property_answer}
-
--- every answer of the rows is a refusal
-pub first_refusals : (w : Record) (lent : ℕ) (strings name : List ℕ) (misfit zero : Bool) → Refusals (state_rows w lent strings misfit zero ++ name_rows name)
-unfolding state_rows strings_rows blob_rows alone_rows name_rows all_answers Refusals accepts
-first_refusals w lent strings name misfit zero = refl
-
-refusals : (w : Record) (blob strings name : List ℕ) (v : Value) → Refusals (property_rows w blob strings name v)
-unfolding property_rows state_rows strings_rows blob_rows alone_rows name_rows place_rows all_answers Refusals accepts
-refusals w blob strings name v = refl
 
 module _ (w : Record) (blob strings name : List ℕ) (v : Value) where
   pub property_exactly : Exactly (property_rows w blob strings name v) (property_answer w blob strings name v)
   unfolding property_answer
-  property_exactly = exactly (property_rows w blob strings name v) (refusals w blob strings name v)
+  property_exactly = exactly (property_rows w blob strings name v)
 
   -- what an accepted property passed
   pub record PropertyFits : Type 0 where

@@ -1,27 +1,22 @@
 -- A property is written in two steps, a placeholder and then its value. What the functions of these steps promise each other;
 -- no statement of a public call uses it.
-use Rattle.std.specs.Prelude.{◌≡◌, true, false, cond, List, [], ◌∷◌, ℕ, ◌+◌, ◌-◌, ◌≤◌, ◌<◌, ◌^◌, eqb, length}
+use Rattle.std.specs.Prelude.{◌≡◌, Bool, false, cond, List, [], ◌∷◌, ℕ, ◌+◌, ◌-◌, ◌≤◌, ◌<◌, ◌^◌, length, Result, Ok, Err}
 use Rattle.fdt_bytes.specs.BigEndian.{cell_bytes}
 use Rattle.fdt_bytes.specs.Padding.{round_up, zeros}
 use Rattle.fdt_bytes.specs.Splice.{splice}
 use Rattle.fdt_strings.specs.declared.Interned.{Interned}
+use Rattle.fdt_strings.specs.declared.StringRoom.{StringRoom}
 use Rattle.fdt_strings.specs.Entries.{entry}
 use Rattle.fdt_format.specs.Tokens.{property_token}
 use Rattle.fdt_values.specs.Value.{Value, value_bytes, misfit_value, zero_value}
+use Rattle.fdt_record.specs.declared.Error.{Error}
+use Rattle.fdt_record.specs.declared.Error.TheVariants as error
 use Rattle.fdt_record.specs.declared.Record.{Record}
-use Rattle.fdt_record.specs.Answers.{accepts}
+use Rattle.fdt_record.specs.Answers.{Done}
 use Rattle.fdt_properties.specs.declared.Measured.{Measured}
-use Rattle.fdt_properties.specs.declared.Place.{Place}
 use Rattle.fdt_properties.specs.declared.Tested.{Tested}
 use Rattle.fdt_properties.specs.declared.Placed.{Placed}
-use Rattle.fdt_properties.specs.Property.{place_of, is_known, is_full, place_offset, added, written, property_record, property_answer, property, property_strings}
-
--- the figures of a name's place
-pub record PlaceIs (p : Interned) (name : List ℕ) (r : Place) : Type 0 where
-  pub known_is : r.known ≡ is_known p
-  pub full_is : r.full ≡ is_full p
-  pub offset_is : r.offset ≡ place_offset p
-  pub added_is : r.added ≡ added p name
+use Rattle.fdt_properties.specs.Property.{place_of, place_offset, added, property_record, property_answer, PropertyOutcome}
 
 -- the figures of a value; the length counts only if the lengths of its strings are right
 pub record Measures (m : Measured) (v : Value) : Type 0 where
@@ -29,13 +24,14 @@ pub record Measures (m : Measured) (v : Value) : Type 0 where
   pub zero_is : m.zero ≡ zero_value v
   pub len_is : misfit_value v ≡ false → m.len ≡ length (value_bytes v)
 
--- a name that adds bytes fits at its offset
-abbrev pub NameFits : (offset added : ℕ) (name strings : List ℕ) → Type 0
-NameFits offset added name strings = (added ≡ 0 → ⊥) → offset + length (entry name) ≤ length strings
+-- the name's place once 15 and 20 are passed
+abbrev pub tested_place : Result Interned StringRoom → Bool → Result Interned Error
+tested_place (Ok place) repeated = cond repeated (Err error.DuplicateProperty) (Ok place)
+tested_place (Err full) repeated = Err error.StringRoom
 
--- the strings with such a name stored
-unfoldable pub stored_at : (offset added : ℕ) (name strings : List ℕ) → List ℕ
-stored_at offset added name strings = cond (eqb added 0) strings (splice offset (entry name) strings)
+-- a name that adds bytes fits at its offset
+abbrev pub NameFits : (place : Result Interned StringRoom) (name strings : List ℕ) → Type 0
+NameFits place name strings = (added place name ≡ 0 → ⊥) → place_offset place + length (entry name) ≤ length strings
 
 -- a property with `len` bytes of value ends within the blob, and its figures fit into words
 pub record FrameFits (used offset len end lent : ℕ) : Type 0 where
@@ -50,29 +46,32 @@ framed used offset len end blob =
     splice (used + 12 + len) (zeros (end - (used + 12 + len)))
     (splice used (cell_bytes 4 (property_token ∷ len ∷ offset ∷ [])) blob)
 
+-- what the passed tests say of every value with these figures
+pub record Accepted (w : Record) (blob strings name : List ℕ) (after : Record) (v : Value) : Type 0 where
+  pub in_order : misfit_value v ≡ false
+  pub answered : property_answer w blob strings name v ≡ Done
+  pub after_is : after ≡ property_record w strings name v
+
 -- what holds once the tests are passed
 pub record Passed (w : Record) (blob strings name : List ℕ) (m : Measured) (r : Tested) : Type 0 where
-  pub offset_is : r.offset ≡ place_offset (place_of w strings name)
-  pub added_is : r.added ≡ added (place_of w strings name) name
-  pub name_fits : NameFits r.offset r.added name strings
-  pub frame_fits : FrameFits w.blob_used r.offset m.len r.after.blob_used (length blob)
+  pub place_is : place_of w strings name ≡ Ok r.place
+  pub name_fits : NameFits (Ok r.place) name strings
+  pub frame_fits : FrameFits w.blob_used (place_offset (Ok r.place)) m.len r.after.blob_used (length blob)
+  pub accepted : (v : Value) → Measures m v → Accepted w blob strings name r.after v
 
--- the tests of a property: what they say holds of every value with these figures
-pub record PropertyTested (w : Record) (blob strings name : List ℕ) (m : Measured) (r : Tested) : Type 0 where
-  pub passed : accepts r.answer ≡ true → Passed w blob strings name m r
-  pub answered : (v : Value) → Measures m v → r.answer ≡ property_answer w blob strings name v
-  pub after_is : (v : Value) → Measures m v → accepts r.answer ≡ true → (misfit_value v ≡ false) × (r.after ≡ property_record w strings name v)
+-- the tests of a property: passed, or refused with the error that every value with these figures gets
+abbrev pub PropertyTested : Record → (blob strings name : List ℕ) → Measured → Result Tested Error → Type 0
+PropertyTested w blob strings name m (Ok r) = Passed w blob strings name m r
+PropertyTested w blob strings name m (Err e) = (v : Value) → Measures m v → property_answer w blob strings name v ≡ Err e
 
--- an accepted property whose value is missing: written at `at`, it makes the whole property
-pub record Unfilled (w : Record) (blob strings name : List ℕ) (v : Value) (at : ℕ) (blobAfter : List ℕ) : Type 0 where
+-- an accepted property whose value is missing: with the value at its place it is the whole property
+pub record Unfilled (w : Record) (blob strings name : List ℕ) (v : Value) (r : Placed) (blobAfter stringsAfter : List ℕ) : Type 0 where
   pub in_order : misfit_value v ≡ false
-  pub fits : at + length (value_bytes v) ≤ length blobAfter
-  pub filled : splice at (value_bytes v) blobAfter ≡ splice w.blob_used (written w strings name v) blob
+  pub fits : r.at + length (value_bytes v) ≤ length blobAfter
+  pub filled : PropertyOutcome w blob strings name v (record { answer = Done; after = r.after }) (splice r.at (value_bytes v) blobAfter) stringsAfter
 
--- a property without its value
-pub record Placeholder (w : Record) (blob strings name : List ℕ) (v : Value) (r : Placed) (blobAfter stringsAfter : List ℕ) : Type 0 where
-  pub result : r.outcome ≡ property w blob strings name v
-  pub names : stringsAfter ≡ property_strings w blob strings name v
-  pub accepts_is : r.accepted ≡ accepts r.outcome.answer
-  pub refused : r.accepted ≡ false → blobAfter ≡ blob
-  pub unfilled : r.accepted ≡ true → Unfilled w blob strings name v r.at blobAfter
+-- a property without its value, or its refusal
+abbrev pub Placeholder : Record → (blob strings name : List ℕ) → Value → Result Placed Error → (blobAfter stringsAfter : List ℕ) → Type 0
+Placeholder w blob strings name v (Ok r) blobAfter stringsAfter = Unfilled w blob strings name v r blobAfter stringsAfter
+Placeholder w blob strings name v (Err e) blobAfter stringsAfter =
+    PropertyOutcome w blob strings name v (record { answer = Err e; after = w }) blobAfter stringsAfter

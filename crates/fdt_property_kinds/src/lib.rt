@@ -1,105 +1,132 @@
-// Writes a property of each kind of value: a placeholder, filled with bytes, numbers or strings.
+// Writes a property of any kind of value: a placeholder, filled with bytes, numbers or strings.
 #![tactic(auto)]
 
-ghost use Rattle.fdt_values.specs.Value.{raw, cells, texts};
+ghost use Rattle.std.specs.Prelude.{◌≡◌, false, ◌+◌, ◌≤◌, ◌<◌, ◌^◌, length};
+ghost use Rattle.fdt_bytes.specs.Splice.{splice};
+ghost use Rattle.fdt_values.specs.Value.{Value, raw, cells, texts, value_bytes, misfit_value};
+ghost use Rattle.fdt_properties.specs.Placeholder.{Measures};
 ghost use Rattle.fdt_properties.specs.Property.{PropertyOutcome};
 
 use fdt_properties::{Measured, property_placeholder};
 use fdt_record::{Outcome, Record};
 
-// Writes a property of bytes.
-pub fn write_bytes(
-    w: Record,
-    blob: &mut [u8],
-    strings: &mut [u8],
-    name: &[u8],
-    val: &[u8],
-) -> Outcome
-    ensures { PropertyOutcome w blob.old strings.old name.now (raw val.now) result blob.new strings.new }
-{
-    let value = Measured {
-        misfit: false,
-        zero: false,
-        len: val.len(),
-    };
-    let placed = property_placeholder(w, blob, strings, name, value);
-    let outcome = placed.outcome;
-    if !placed.accepted {
-        return outcome;
-    }
-    fdt_splice::bytes_at(blob, placed.at, val);
-    outcome
+// What can be the value of a property.
+pub trait PropertyValue: Copy {
+    // The value.
+    ghost value: { Self → Value };
+
+    // What the tests ask of it.
+    fn measured(&self) -> Measured
+        ensures measures { Measures result (value self.now) }
+        ensures small { result.len < 2 ^ 63 + 2 ^ 62 };
+
+    // Writes its bytes from a place of the blob on.
+    fn put(&self, blob: &mut [u8], at: usize)
+        requires in_order { misfit_value (value self.now) ≡ false }
+        requires fits { at + length (value_bytes (value self.now)) ≤ length blob.old }
+        ensures { blob.new ≡ splice at (value_bytes (value self.now)) blob.old };
 }
 
-// Writes a property of numbers of 4 bytes.
-pub fn write_cells(
-    w: Record,
-    blob: &mut [u8],
-    strings: &mut [u8],
-    name: &[u8],
-    numbers: &[u32],
-) -> Outcome
-    ensures { PropertyOutcome w blob.old strings.old name.now (cells 4 numbers.now) result blob.new strings.new }
-{
-    let value = Measured {
-        misfit: false,
-        zero: false,
-        len: 4 * numbers.len(),
-    };
-    let placed = property_placeholder(w, blob, strings, name, value);
-    let outcome = placed.outcome;
-    if !placed.accepted {
-        return outcome;
+// Bytes as they are.
+impl<'a> PropertyValue for &'a [u8] {
+    ghost value = { λ s. raw s.now };
+
+    #[tactic(auto, unfolding(fdt_values::specs::Value::misfit_value, fdt_values::specs::Value::zero_value, fdt_values::specs::Value::value_bytes))]
+    fn measured(&self) -> Measured {
+        Measured {
+            misfit: false,
+            zero: false,
+            len: self.len(),
+        }
     }
-    fdt_splice::cells_at(blob, placed.at, numbers);
-    outcome
+
+    #[tactic(auto, unfolding(fdt_values::specs::Value::value_bytes))]
+    fn put(&self, blob: &mut [u8], at: usize) {
+        fdt_splice::bytes_at(blob, at, self);
+    }
 }
 
-// Writes a property of numbers of 8 bytes.
-pub fn write_wide_cells(
-    w: Record,
-    blob: &mut [u8],
-    strings: &mut [u8],
-    name: &[u8],
-    numbers: &[u64],
-) -> Outcome
-    ensures { PropertyOutcome w blob.old strings.old name.now (cells 8 numbers.now) result blob.new strings.new }
-{
-    let value = Measured {
-        misfit: false,
-        zero: false,
-        len: 8 * numbers.len(),
-    };
-    let placed = property_placeholder(w, blob, strings, name, value);
-    let outcome = placed.outcome;
-    if !placed.accepted {
-        return outcome;
+// Numbers of 4 bytes.
+impl<'a> PropertyValue for &'a [u32] {
+    ghost value = { λ s. cells 4 s.now };
+
+    fn measured(&self) -> Measured {
+        Measured {
+            misfit: false,
+            zero: false,
+            len: 4 * self.len(),
+        }
     }
-    fdt_splice::wide_cells_at(blob, placed.at, numbers);
-    outcome
+
+    #[tactic(auto, unfolding(fdt_values::specs::Value::value_bytes, fdt_bytes::specs::BigEndian::cell_bytes))]
+    fn put(&self, blob: &mut [u8], at: usize) {
+        fdt_splice::cells_at(blob, at, self);
+    }
 }
 
-// Writes a property of strings, given as their joined bytes and their lengths.
-pub fn write_texts(
+// Numbers of 8 bytes. Not one impl for every `Cell`: of a type parameter it is not known that a slice's bytes can be counted.
+impl<'a> PropertyValue for &'a [u64] {
+    ghost value = { λ s. cells 8 s.now };
+
+    fn measured(&self) -> Measured {
+        Measured {
+            misfit: false,
+            zero: false,
+            len: 8 * self.len(),
+        }
+    }
+
+    #[tactic(auto, unfolding(fdt_values::specs::Value::value_bytes, fdt_bytes::specs::BigEndian::cell_bytes))]
+    fn put(&self, blob: &mut [u8], at: usize) {
+        fdt_splice::cells_at(blob, at, self);
+    }
+}
+
+// Strings, given as their joined bytes and their lengths.
+#[derive(Clone, Copy)]
+pub struct Texts<'a> {
+    pub joined: &'a [u8],
+    pub lengths: &'a [usize],
+}
+
+impl<'a> PropertyValue for Texts<'a> {
+    ghost value = { λ t. texts t.joined.now t.lengths.now };
+
+    fn measured(&self) -> Measured {
+        Measured {
+            misfit: !fdt_values::sums_to(self.lengths, self.joined.len()),
+            zero: fdt_names::has_zero(self.joined),
+            len: self.joined.len() + self.lengths.len(),
+        }
+    }
+
+    #[tactic(auto, unfolding(fdt_values::specs::Value::value_bytes))]
+    fn put(&self, blob: &mut [u8], at: usize) {
+        fdt_values::texts_at(blob, at, self.joined, self.lengths);
+    }
+}
+
+// Writes a property of a value: a placeholder, filled with the value's bytes.
+pub fn write_property<V: PropertyValue>(
     w: Record,
     blob: &mut [u8],
     strings: &mut [u8],
     name: &[u8],
-    joined: &[u8],
-    lengths: &[usize],
-) -> Outcome
-    ensures { PropertyOutcome w blob.old strings.old name.now (texts joined.now lengths.now) result blob.new strings.new }
+    val: V,
+) -> Outcome<()>
+    ensures { PropertyOutcome w blob.old strings.old name.now (V.value val) result blob.new strings.new }
 {
-    let value = Measured {
-        misfit: !fdt_values::sums_to(lengths, joined.len()),
-        zero: fdt_names::has_zero(joined),
-        len: joined.len() + lengths.len(),
-    };
-    let placed = property_placeholder(w, blob, strings, name, value);
-    let outcome = placed.outcome;
-    if !placed.accepted {
-        return outcome;
+    match property_placeholder(w, blob, strings, name, val.measured()) {
+        Ok(placed) => {
+            val.put(blob, placed.at);
+            Outcome {
+                answer: Ok(()),
+                after: placed.after,
+            }
+        }
+        Err(error) => Outcome {
+            answer: Err(error),
+            after: w,
+        },
     }
-    fdt_values::texts_at(blob, placed.at, joined, lengths);
-    outcome
 }

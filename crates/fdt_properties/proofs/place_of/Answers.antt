@@ -1,21 +1,17 @@
--- `place_of` meets its contract: the name is looked for in the used strings, and each arm knows its place.
-use mathlib.Core.Path.{sym, ◌∙◌}
-use lib.Seq.{length-take-le}
+-- `place_of` meets its contract: a known name is looked for among the properties of the open node.
+use Rattle.std.proofs.Common.{sym, ap, ◌∙◌, Ok}
 use Rattle.fdt_properties.specs.Property.{place_of}
-use Rattle.fdt_properties.proofs.Places.{place_is, known_is, new_is, none_is}
+use Rattle.fdt_properties.proofs.Places.{found_place, known_place}
 use Rattle.fdt_properties.proofs.place_of.Goals as goal
 
-pub slice_bounds-intern_string-end : goal.slice_bounds-intern_string-end
-slice_bounds-intern_string-end c = sym (length-take-le _ _ c.requires)
-
-pub returns-in-Known : goal.returns-in-Known
+pub returns-then-look_back : goal.returns-then-look_back
 unfolding place_of
-returns-in-Known c = place_is (sym c.intern_string.ensures ∙ c.in-Known.is) (known_is _ _)
+returns-then-look_back c =
+    let e = found_place _ _ (sym c.or.ensures ∙ c.in_ok-place.was) in
+    sym (known_place _ _ (sym c.intern_string-found.ensures ∙ e ∙ ap Ok c.in-Known.is) (sym c.if-look_back.true ∙ c.look_back.ensures))
 
-pub returns-in-New : goal.returns-in-New
+pub returns-else-look_back : goal.returns-else-look_back
 unfolding place_of
-returns-in-New c = place_is (sym c.intern_string.ensures ∙ c.in-New.is) (new_is _ _)
-
-pub returns-in-StringRoom : goal.returns-in-StringRoom
-unfolding place_of
-returns-in-StringRoom c = place_is (sym c.intern_string.ensures ∙ c.in-StringRoom.is) (none_is _)
+returns-else-look_back c =
+    let e = found_place _ _ (sym c.or.ensures ∙ c.in_ok-place.was) in
+    sym (known_place _ _ (sym c.intern_string-found.ensures ∙ e ∙ ap Ok c.in-Known.is) (sym c.if-look_back.false ∙ c.look_back.ensures))

@@ -4,31 +4,34 @@ use native.Mathlib.Omega.{arith}
 use lib.Dec.{lit<}
 use Rattle.fdt_bytes.specs.Padding.{round_up}
 use Rattle.fdt_bytes.proofs.Padding.{padding-small}
-use Rattle.fdt_properties.proofs.Places.{settled}
-use Rattle.fdt_properties.proofs.Steps.{first_fits, refused-first, answered-second}
+use Rattle.fdt_properties.proofs.Steps.{exits, refused-first, first_fits, refused-place, added_fits, refused-room, tests-passed}
 use Rattle.fdt_properties.proofs.property_tests.Goals as goal
 
-pub returns-then-not-accepted : goal.returns-then-not-accepted
-returns-then-not-accepted c =
+pub returns-in_err-first_tests : goal.returns-in_err-first_tests
+returns-in_err-first_tests c = rw (exits _ c.from_residual.ensures) (refused-first _ _ _ _ _ _ (sym c.first_tests.ensures ∙ c.in_err-first_tests.was))
+
+pub place_of-requires : goal.place_of-requires
+place_of-requires c =
     let a = c.args in
-    refused-first a.w a.blob.now a.strings.now a.name.now a.value c.first_tests-answer.ensures (sym c.accepted.ensures ∙ c.if-not-accepted.true)
+    let f = first_fits a.w a.blob.now a.strings.now a.name.now a.value (sym c.first_tests.ensures ∙ c.in_ok-first_tests.was) in
+    record { start = f.blob_fits.start; within = omega (arith, f.blob_fits.used, f.blob_fits.within); stored = omega (arith, f.names.used, f.names.within) }
 
-pub place_of-place-requires : goal.place_of-place-requires
-place_of-place-requires c = let f = ((let a = c.args in
-    first_fits a.w a.blob.now a.strings.now a.name.now a.value c.first_tests-answer.ensures ((sym c.accepted.ensures ∙ c.if-not-accepted.false)))).names in omega (arith, f.used, f.within)
-
-pub is_repeated-repeated-requires : goal.is_repeated-repeated-requires
-is_repeated-repeated-requires c = let f = ((let a = c.args in
-    first_fits a.w a.blob.now a.strings.now a.name.now a.value c.first_tests-answer.ensures ((sym c.accepted.ensures ∙ c.if-not-accepted.false)))).blob_fits in (f.start, omega (arith, f.used, f.within))
+pub returns-in_err-place : goal.returns-in_err-place
+returns-in_err-place c = rw (exits _ c.from_residual-in_err-place.ensures) (refused-place _ _ _ _ _ (sym c.first_tests.ensures ∙ c.in_ok-first_tests.was) _ (sym c.place_of.ensures ∙ c.in_err-place.was))
 
 pub after_property-after-requires : goal.after_property-after-requires
 unfolding round_up
 after_property-after-requires c =
-    let f = (let a = c.args in
-    first_fits a.w a.blob.now a.strings.now a.name.now a.value c.first_tests-answer.ensures ((sym c.accepted.ensures ∙ c.if-not-accepted.false))) in
-    let p = settled c.args.w c.args.strings.now c.args.name.now f.names in record { len_bound = omega (arith, padding-small 4 c.args.value.len (lit< tt), f.blob_fits.used, f.blob_fits.small, c.requires); added_bound = omega (arith, c.place_of-place.ensures.added_is, p.used, f.names.small) }
+    let a = c.args in
+    let told = sym c.first_tests.ensures ∙ c.in_ok-first_tests.was in
+    let f = first_fits a.w a.blob.now a.strings.now a.name.now a.value told in
+    record {
+      len_bound = omega (arith, padding-small 4 a.value.len (lit< tt), f.blob_fits.used, f.blob_fits.small, c.requires);
+      added_bound = omega (arith, c.added_by.ensures, added_fits a.w a.blob.now a.strings.now a.name.now a.value told (sym c.place_of.ensures ∙ c.in_ok-place.was), f.names.small);
+    }
+
+pub returns-then-overfull : goal.returns-then-overfull
+returns-then-overfull c = refused-room _ _ _ _ _ (sym c.first_tests.ensures ∙ c.in_ok-first_tests.was) (sym c.place_of.ensures ∙ c.in_ok-place.was) c.added_by.ensures c.after_property-after.ensures (sym c.overfull.ensures ∙ c.if-overfull.true)
 
 pub returns : goal.returns
-returns c =
-    let a = c.args in
-    answered-second a.w a.blob.now a.strings.now a.name.now a.value c.first_tests-answer.ensures ((sym c.accepted.ensures ∙ c.if-not-accepted.false)) c.place_of-place.ensures c.is_repeated-repeated.ensures c.after_property-after.ensures c.place_tests.ensures
+returns c = tests-passed _ _ _ _ _ (sym c.first_tests.ensures ∙ c.in_ok-first_tests.was) (sym c.place_of.ensures ∙ c.in_ok-place.was) c.added_by.ensures c.after_property-after.ensures (sym c.overfull.ensures ∙ c.if-overfull.false)
