@@ -3,8 +3,6 @@
 
 ghost use Rattle.export_reader.specs.Told.{ReadTold, FaultTold};
 
-use fdt_reader::Surveyed;
-
 // Reads a blob into a list, as `fdt_reader::read` does, and returns the number of the answer. Sets the values to the boot number
 // and the counts of reservations and entries, all 0 if the blob is refused.
 #[unsafe(no_mangle)]
@@ -25,10 +23,7 @@ pub extern "C" fn blob_fault(blob: &[u8], place: &mut usize) -> u32
     let seen = fdt_reader::survey(blob);
     *place = fdt_reader::fault_place(seen);
     match seen {
-        Surveyed::Readable(_, _, _) => 0,
-        Surveyed::Refused(fault) => {
-            let refusal = fault.refusal;
-            fdt_walk::number(refusal)
-        }
+        Ok(_) => 0,
+        Err(fault) => fdt_walk::number(fault.refusal),
     }
 }

@@ -11,6 +11,8 @@ use borrow.Author.Tests.{leb-true, lt-leb, eqb-true, eq-eqb, ne_eqb}
 use lib.Dec.{eqb, leb}
 use lib.ListN.{length, take, drop}
 use lib.Seq.{take-take}
+use Rattle.std.specs.declared.option.Option.{Option}
+use Rattle.std.specs.declared.option.Option.TheVariants.{None, Some}
 use Rattle.fdt_bytes.specs.BigEndian.{from_big_endian, number_at, word_at, cell_bytes}
 use Rattle.fdt_bytes.specs.Padding.{round_up, padded}
 use Rattle.fdt_bytes.proofs.Splice.{drop-take}
@@ -70,17 +72,18 @@ module _ (b : List ℕ) (end offset : ℕ) where
     here w = look_step ∙ rw (is_whole b end at w)
 
     -- by the size of the property here, as the code asks for it
-    module _ {size : ℕ} (s : size ≡ size_at b end at) where
-      pub look_none : size ≡ 0 → look_back b end offset at ≡ false
+    module _ {found : Option ℕ} (s : found ≡ size_at b end at) where
+      pub look_none : found ≡ None → look_back b end offset at ≡ false
       look_none z = look_step ∙ rw (size_none b end at s z)
 
-      pub look_found : (size ≡ 0 → ⊥) → word_at b (at + 8) ≡ offset → look_back b end offset at ≡ true
-      look_found n e = here (size-whole b end at s n).0 ∙ rw (eq-eqb _ _ e)
+      module _ {size : ℕ} (n : found ≡ Some size) where
+        pub look_found : word_at b (at + 8) ≡ offset → look_back b end offset at ≡ true
+        look_found e = here (size-whole b end at s n).0 ∙ rw (eq-eqb _ _ e)
 
-      pub look_on : (size ≡ 0 → ⊥) → (word_at b (at + 8) ≡ offset → ⊥) → look_back b end offset at ≡ look_back b end offset (at + size)
-      look_on n e =
-          let w = size-whole b end at s n in
-          here w.0 ∙ rw (ne_eqb _ _ e, w.1)
+        pub look_on : (word_at b (at + 8) ≡ offset → ⊥) → look_back b end offset at ≡ look_back b end offset (at + size)
+        look_on e =
+            let w = size-whole b end at s n in
+            here w.0 ∙ rw (ne_eqb _ _ e, w.1)
 
 -- ---- where it finds a property
 

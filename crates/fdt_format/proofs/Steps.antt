@@ -9,6 +9,10 @@ use native.Mathlib.Numerals.{add-one}
 use borrow.Author.Tests.{ltb-false, le-ltb, leb-true, le-leb, eqb-true, eqb-false, eq-eqb, ne_eqb}
 use lib.Dec.{eqb, leb, ltb}
 use lib.ListN.{get_or, take, drop}
+use Rattle.std.specs.declared.option.Option.{Option}
+use Rattle.std.specs.declared.option.Option.TheVariants.{None, Some}
+use Rattle.std.specs.declared.result.Result.{Result}
+use Rattle.std.specs.declared.result.Result.TheVariants.{Ok, Err}
 use Rattle.fdt_bytes.specs.BigEndian.{word_at}
 use Rattle.fdt_bytes.specs.Padding.{round_up}
 use Rattle.fdt_format.specs.declared.Areas.{Areas}
@@ -16,6 +20,7 @@ use Rattle.fdt_format.specs.declared.Entry.{Entry}
 use Rattle.fdt_format.specs.declared.State.{State}
 use Rattle.fdt_format.specs.declared.Step.{Step}
 use Rattle.fdt_format.specs.declared.Step.TheVariants as step
+use Rattle.fdt_format.specs.declared.Unreadable.{Unreadable}
 use Rattle.fdt_format.specs.declared.Unreadable.TheVariants.{Structure, NameOffset}
 use Rattle.fdt_format.specs.Description.{◌≔◌}
 use Rattle.fdt_format.specs.Events.{begins, has, ends}
@@ -80,20 +85,20 @@ module _ (b : List ℕ) (end at : ℕ) where
   unfolding whole_at
   is_whole w = rw (le-leb _ _ w.words, eq-eqb _ _ w.token, le-leb _ _ w.ends)
 
-  -- a size of 0 means that no whole property is there, and any other that one is
-  by_size : (t : Bool) → whole_at b end at ≡ t → {size : ℕ} → size ≡ cond t (property_size (word_at b (at + 4))) 0
-      → (size ≡ 0 → whole_at b end at ≡ false) × ((size ≡ 0 → ⊥) → WholeProperty × (size ≡ property_size (word_at b (at + 4))))
-  by_size true e s = (λ z. absurd (omega (arith, s)), λ n. (whole_is e, s))
-  by_size false e s = (λ z. e, λ n. absurd (n s))
+  -- no size means that no whole property is there, and a size that one is
+  by_size : (t : Bool) → whole_at b end at ≡ t → {found : Option ℕ} → found ≡ cond t (Some (property_size (word_at b (at + 4)))) None
+      → (found ≡ None → whole_at b end at ≡ false) × ((size : ℕ) → found ≡ Some size → WholeProperty × (size ≡ property_size (word_at b (at + 4))))
+  by_size true e s = (λ z. absurd (let z : ◌≡◌ {A = ℕ} 0 1 = cc in omega arith), λ size q. (whole_is e, cc))
+  by_size false e s = (λ z. e, λ size q. absurd (let z : ◌≡◌ {A = ℕ} 0 1 = cc in omega arith))
 
-  module _ {size : ℕ} (s : size ≡ size_at b end at) where
-    pub size_none : size ≡ 0 → whole_at b end at ≡ false
+  module _ {found : Option ℕ} (s : found ≡ size_at b end at) where
+    pub size_none : found ≡ None → whole_at b end at ≡ false
     unfolding size_at
     size_none = (by_size (whole_at b end at) refl s).0
 
-    pub size-whole : (size ≡ 0 → ⊥) → WholeProperty × (size ≡ property_size (word_at b (at + 4)))
+    pub size-whole : {size : ℕ} → found ≡ Some size → WholeProperty × (size ≡ property_size (word_at b (at + 4)))
     unfolding size_at
-    size-whole = (by_size (whole_at b end at) refl s).1
+    size-whole {size} = (by_size (whole_at b end at) refl s).1 size
 
 -- ---- the event of an entry, by its token
 
@@ -113,11 +118,11 @@ module _ (b : List ℕ) (t : Entry) where
 -- ---- how a token moves the state
 
 -- an entry moves the place on, begins a node, is a property or ends a node, and has its token at its place; a word 4 is whole; the final word comes where no node is open; a token is refused only for its structure or its name offset
-unfoldable pub Stepped : List ℕ → Areas → State → Step → Type 0
-Stepped b a s (step.Entry t s') = Moved a s s' × Kind b s t s' × (word_at b t.place ≡ t.token)
-Stepped b a s step.Skip = s.at + 4 ≤ a.structure_end
-Stepped b a s step.Final = s.depth ≡ 0
-Stepped b a s (step.Bad r) = (r ≡ Structure) ⊎ (r ≡ NameOffset)
+unfoldable pub Stepped : List ℕ → Areas → State → Result Step Unreadable → Type 0
+Stepped b a s (Ok (step.Entry t s')) = Moved a s s' × Kind b s t s' × (word_at b t.place ≡ t.token)
+Stepped b a s (Ok step.Skip) = s.at + 4 ≤ a.structure_end
+Stepped b a s (Ok step.Final) = s.depth ≡ 0
+Stepped b a s (Err r) = (r ≡ Structure) ⊎ (r ≡ NameOffset)
 
 round_up_ge : (m n : ℕ) → n ≤ round_up m n
 unfolding round_up
@@ -178,7 +183,7 @@ module _ (b : List ℕ) (a : Areas) (s : State) where
       λ _. by_test (Stepped b a s) (eqb word final_token) _ _ (λ _. final_stepped) (λ _. inl refl)
 
   -- a whole word 4 inside the structure is skipped
-  pub step_skip : s.at + 4 ≤ a.structure_end → word_at b s.at ≡ skip_token → step_at b a s ≡ step.Skip
+  pub step_skip : s.at + 4 ≤ a.structure_end → word_at b s.at ≡ skip_token → step_at b a s ≡ Ok step.Skip
   unfolding step_at
   step_skip h w = let whole : 4 ≤ a.structure_end - s.at = omega arith in rw (le-ltb _ _ whole, w)
 
@@ -186,6 +191,6 @@ module _ (b : List ℕ) (a : Areas) (s : State) where
   pub skip_moved : s.at + 4 ≤ a.structure_end → Moved a s (past s)
   skip_moved h = record { on = omega arith; within = h }
 
-  pub moved : {t : Entry} {s' : State} → step_at b a s ≡ step.Entry t s' → Moved a s s'
+  pub moved : {t : Entry} {s' : State} → step_at b a s ≡ Ok (step.Entry t s') → Moved a s s'
   unfolding Stepped
   moved q = (subst (Stepped b a s) q step_stepped).0

@@ -7,8 +7,8 @@ use mathlib.Core.List.{List, [], ◌∷◌, ◌++◌, append_assoc, append-nil, 
 use Prim.Native.Nat.{ℕ, ◌+◌}
 use native.Mathlib.Omega.{arith}
 use lib.ListN.{length}
-use Rattle.fdt_strings.specs.declared.Found.{Found}
-use Rattle.fdt_strings.specs.declared.Found.TheVariants.{At, Nothing}
+use Rattle.std.specs.declared.option.Option.{Option}
+use Rattle.std.specs.declared.option.Option.TheVariants.{None, Some}
 use Rattle.fdt_strings.specs.Entries.{found_values, entries, first_from, find_string, same, joined, NoZero}
 use Rattle.fdt_strings.proofs.Entries.{eq_same, entries-joined, first-after, found-stands, Stands, no_entry, next_entry, PlainNames as PlainNames}
 use Rattle.fdt_format.specs.Description.{◌≔◌}
@@ -20,14 +20,14 @@ use Rattle.fdt_format.specs.Blob.{or_at_end, with_name, names_from, names_of, fo
 
 -- the name is found among names
 unfoldable pub Has : List (List ℕ) → List ℕ → Type 0
-Has names name = (i : ℕ) × (first_from 0 names name ≡ At i)
+Has names name = (i : ℕ) × (first_from 0 names name ≡ Some i)
 
-pub first_stays : (name : List ℕ) (k i : ℕ) (names more : List (List ℕ)) → first_from k names name ≡ At i → first_from k (names ++ more) name ≡ At i
+pub first_stays : (name : List ℕ) (k i : ℕ) (names more : List (List ℕ)) → first_from k names name ≡ Some i → first_from k (names ++ more) name ≡ Some i
 unfolding first_from
 first_stays name k i [] more h = let n : ◌≡◌ {A = ℕ} 0 1 = cc in absurd (omega arith)
 first_stays name k i (e ∷ es) more h = go (same e name) (λ r. first_stays name (k + (length e + 1)) i es more r) h
   where
-    go : {x y : Found} (z : Bool) → (x ≡ At i → y ≡ At i) → cond z (At k) x ≡ At i → cond z (At k) y ≡ At i
+    go : {x y : Option ℕ} (z : Bool) → (x ≡ Some i → y ≡ Some i) → cond z (Some k) x ≡ Some i → cond z (Some k) y ≡ Some i
     go true f h = h
     go false f h = f h
 
@@ -47,17 +47,17 @@ module _ (names : List (List ℕ)) (name : List ℕ) where
   unfolding with_name or_at_end
   with_grows = go (first_from 0 names name)
     where
-      go : (f : Found) → (more : List (List ℕ)) × (or_at_end f names name ≡ names ++ more)
-      go (At i) = ([], sym (append-nil names))
-      go Nothing = (name ∷ [], refl)
+      go : (f : Option ℕ) → (more : List (List ℕ)) × (or_at_end f names name ≡ names ++ more)
+      go (Some i) = ([], sym (append-nil names))
+      go None = (name ∷ [], refl)
 
   pub with_has : Has (with_name names name) name
   unfolding with_name or_at_end Has first_from
   with_has = go (first_from 0 names name) refl
     where
-      go : (f : Found) → first_from 0 names name ≡ f → (i : ℕ) × (first_from 0 (or_at_end f names name) name ≡ At i)
-      go (At i) e = (i, e)
-      go Nothing e = (0 + length (joined names), first-after name 0 names (name ∷ []) e ∙ simp (eq_same name name refl))
+      go : (f : Option ℕ) → first_from 0 names name ≡ f → (i : ℕ) × (first_from 0 (or_at_end f names name) name ≡ Some i)
+      go (Some i) e = (i, e)
+      go None e = (0 + length (joined names), first-after name 0 names (name ∷ []) e ∙ simp (eq_same name name refl))
 
 -- ---- the names of events
 
@@ -110,9 +110,9 @@ with_plain : {names : List (List ℕ)} (name : List ℕ) → PlainNames names �
 unfolding with_name or_at_end
 with_plain {names} name p n = go (first_from 0 names name)
   where
-    go : (f : Found) → PlainNames (or_at_end f names name)
-    go (At i) = p
-    go Nothing = plain-snoc p n
+    go : (f : Option ℕ) → PlainNames (or_at_end f names name)
+    go (Some i) = p
+    go None = plain-snoc p n
 
 pub names-plain : {names : List (List ℕ)} (es : List Event) → AllPlain es → PlainNames names → PlainNames (names_from names es)
 unfolding AllPlain Plain names_from
@@ -126,7 +126,7 @@ module _ {names : List (List ℕ)} (p : PlainNames names) where
   pub has-stands : (name : List ℕ) → Has names name → Stands (joined names) name (offset_of names name)
   unfolding Has offset_of found_at found_values find_string
   has-stands name h =
-      let f : first_from 0 (entries (joined names)) name ≡ At h.0 = ap (λ (l : List (List ℕ)). first_from 0 l name) (entries-joined p) ∙ h.1 in
+      let f : first_from 0 (entries (joined names)) name ≡ Some h.0 = ap (λ (l : List (List ℕ)). first_from 0 l name) (entries-joined p) ∙ h.1 in
       rw h.1 (found-stands (joined names) name h.0 f)
 
 -- the strings of events split into their names again
@@ -137,12 +137,12 @@ names-entries es a = entries-joined (names-plain es a no_entry)
 -- ---- each name once
 
 -- a name that occurs among names is found
-pub mem_found : {name : List ℕ} {names : List (List ℕ)} (k : ℕ) → Memᴰ name names → (i : ℕ) × (first_from k names name ≡ At i)
+pub mem_found : {name : List ℕ} {names : List (List ℕ)} (k : ℕ) → Memᴰ name names → (i : ℕ) × (first_from k names name ≡ Some i)
 unfolding first_from
 mem_found k (Memᴰ.head {x = e} q) = (k, simp (eq_same e _ (sym q)))
 mem_found {name} k (Memᴰ.tail {x = e} m) = go (same e name) (mem_found (k + (length e + 1)) m)
   where
-    go : {x : Found} (z : Bool) → (i : ℕ) × (x ≡ At i) → (i : ℕ) × (cond z (At k) x ≡ At i)
+    go : {x : Option ℕ} (z : Bool) → (i : ℕ) × (x ≡ Some i) → (i : ℕ) × (cond z (Some k) x ≡ Some i)
     go true f = (k, refl)
     go false f = f
 
@@ -159,9 +159,9 @@ with_distinct : (names : List (List ℕ)) (name : List ℕ) → Distinct names �
 unfolding with_name or_at_end
 with_distinct names name d = go (first_from 0 names name) refl
   where
-    go : (f : Found) → first_from 0 names name ≡ f → Distinct (or_at_end f names name)
-    go (At i) e = d
-    go Nothing e = distinct_snoc names name d λ m. let f = mem_found 0 m in let g = f.1 in let n : ◌≡◌ {A = ℕ} 0 1 = cc in omega arith
+    go : (f : Option ℕ) → first_from 0 names name ≡ f → Distinct (or_at_end f names name)
+    go (Some i) e = d
+    go None e = distinct_snoc names name d λ m. let f = mem_found 0 m in let g = f.1 in let n : ◌≡◌ {A = ℕ} 0 1 = cc in omega arith
 
 pub names-distinct : (names : List (List ℕ)) (es : List Event) → Distinct names → Distinct (names_from names es)
 unfolding names_from

@@ -1,8 +1,6 @@
 -- The bytes of a description (document 01, "The bytes"): header, reservations, structure, strings.
-use Rattle.std.specs.Prelude.{List, [], ◌∷◌, ◌++◌, ℕ, ◌+◌, ◌<◌, ◌^◌, length, get_or}
+use Rattle.std.specs.Prelude.{List, [], ◌∷◌, ◌++◌, ℕ, ◌+◌, ◌<◌, ◌^◌, length, get_or, Option, None, Some}
 use Rattle.fdt_bytes.specs.Padding.{round_up}
-use Rattle.fdt_strings.specs.declared.Found.{Found}
-use Rattle.fdt_strings.specs.declared.Found.TheVariants.{At, Nothing}
 use Rattle.fdt_strings.specs.Entries.{found_values, first_from, joined, NoZero}
 use Rattle.fdt_format.specs.Description.{◌≔◌, Reservation, reservation, Description}
 use Rattle.fdt_format.specs.Events.{Event, begins, has, ends, events}
@@ -10,9 +8,9 @@ use Rattle.fdt_header.specs.Header.{structure_start, reservation_bytes, header_b
 use Rattle.fdt_format.specs.Tokens.{begin_bytes, property_bytes, property_size, end_bytes, final_bytes}
 
 -- names with one more at the end, unless it was found among them
-unfoldable pub or_at_end : Found → List (List ℕ) → List ℕ → List (List ℕ)
-or_at_end (At offset) names name = names
-or_at_end Nothing names name = names ++ (name ∷ [])
+unfoldable pub or_at_end : Option ℕ → List (List ℕ) → List ℕ → List (List ℕ)
+or_at_end (Some offset) names name = names
+or_at_end None names name = names ++ (name ∷ [])
 
 -- names with one more, each once
 unfoldable pub with_name : List (List ℕ) → List ℕ → List (List ℕ)
@@ -30,7 +28,7 @@ unfoldable pub names_of : List Event → List (List ℕ)
 names_of es = names_from [] es
 
 -- the offset that was found, or 0
-unfoldable pub found_at : Found → ℕ
+unfoldable pub found_at : Option ℕ → ℕ
 found_at f = get_or (found_values f) 0 0
 
 -- the offset of a name in the strings of names

@@ -61,7 +61,7 @@ pub enum Unreadable {
     NameOffset,
 }
 
-// The number of a refusal.
+// The number of a refusal. A function of its name, since `into` would not say at a call which number is meant.
 pub fn number(refusal: Unreadable) -> u32
     ensures { result ≡ number_of refusal }
 {
@@ -72,11 +72,10 @@ pub fn number(refusal: Unreadable) -> u32
     }
 }
 
-// The token at a state: an entry with the state after it, a word 4, which is skipped, the final word, or a refusal.
+// The token at a state: an entry with the state after it, a word 4, which is skipped, or the final word.
 #[derive(Clone, Copy)]
 pub enum Step {
     Entry(Entry, State),
     Skip,
     Final,
-    Bad(Unreadable),
 }

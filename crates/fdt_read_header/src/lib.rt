@@ -10,30 +10,16 @@ use fdt_bytes::{read_u32, read_u64};
 use fdt_format::{Areas, Unreadable};
 use fdt_header::{Header, RESERVATION_SIZE};
 
-// How many reservations come before the all-zero pair, or refusal 22 if no such pair is inside the blob.
-#[derive(Clone, Copy)]
-pub enum Reservations {
-    Count(usize),
-    Refused(Unreadable),
-}
-
 // Whether a blob's length is its total size, and magic and versions match.
+#[tactic(auto, unfolding(fdt_format::specs::Reading::good_words))]
 pub fn good_words(blob: &[u8]) -> bool
     ensures { result ≡ good_words blob.now }
 {
-    if blob.len() < Header::SIZE {
-        return false;
-    }
-    if read_u32(blob, 0) != Header::MAGIC {
-        return false;
-    }
-    if read_u32(blob, 4) as usize != blob.len() {
-        return false;
-    }
-    if read_u32(blob, 20) != Header::VERSION {
-        return false;
-    }
-    read_u32(blob, 24) == Header::LAST_COMP_VERSION
+    Header::SIZE <= blob.len()
+        && read_u32(blob, 0) == Header::MAGIC
+        && read_u32(blob, 4) as usize == blob.len()
+        && read_u32(blob, 20) == Header::VERSION
+        && read_u32(blob, 24) == Header::LAST_COMP_VERSION
 }
 
 // The word at a place, as a number of bytes.
@@ -45,6 +31,7 @@ fn size_at(blob: &[u8], at: usize) -> usize
 }
 
 // The areas that a header names, and the boot number.
+#[tactic(auto, unfolding(fdt_format::specs::Reading::areas_of))]
 pub fn areas_of(blob: &[u8]) -> Areas
     requires { 40 ≤ length blob.now }
     ensures { result ≡ areas_of blob.now }
@@ -62,19 +49,14 @@ pub fn areas_of(blob: &[u8]) -> Areas
 }
 
 // Whether the areas are aligned, and structure and strings lie inside a blob of this length.
+#[tactic(auto, unfolding(fdt_format::specs::Reading::good_areas))]
 pub fn good_areas(a: Areas, length: usize) -> bool
     ensures { result ≡ good_areas a length }
 {
-    if a.reservations % 8 != 0 {
-        return false;
-    }
-    if a.structure % 4 != 0 {
-        return false;
-    }
-    if length < a.structure_end {
-        return false;
-    }
-    a.strings_end <= length
+    a.reservations % 8 == 0
+        && a.structure % 4 == 0
+        && a.structure_end <= length
+        && a.strings_end <= length
 }
 
 // Whether the reservation at a place is the all-zero pair.
@@ -82,38 +64,29 @@ fn zero_pair(blob: &[u8], at: usize) -> bool
     requires { at + 16 ≤ length blob.now }
     ensures { result ≡ (eqb (wide_at blob.now at) 0 && eqb (wide_at blob.now (at + 8)) 0) }
 {
-    if read_u64(blob, at) != 0 {
-        return false;
-    }
-    read_u64(blob, at + 8) == 0
+    read_u64(blob, at) == 0 && read_u64(blob, at + 8) == 0
 }
 
 // Counts the reservations from a place on, up to the all-zero pair, which must be one of the next `most` pairs.
-fn pairs_from(blob: &[u8], from: usize, most: usize) -> Reservations
+fn pairs_from(blob: &[u8], from: usize, most: usize) -> Result<usize, Unreadable>
     requires { from + 16 * most ≤ length blob.now }
     ensures { result ≡ counted (reservations_at blob.now most from) }
 {
-    let mut at = from;
-    let mut left = most;
-    let mut n = 0;
-    while 0 < left {
-        if zero_pair(blob, at) {
-            return Reservations::Count(n);
+    for n in 0..most {
+        if zero_pair(blob, from + RESERVATION_SIZE * n) {
+            return Ok(n);
         }
-        at += RESERVATION_SIZE;
-        left -= 1;
-        n += 1;
     }
-    Reservations::Refused(Unreadable::Reservations)
+    Err(Unreadable::Reservations)
 }
 
-// Counts the reservations of a blob.
-pub fn reservations_of(blob: &[u8], a: Areas) -> Reservations
+// Counts the reservations of a blob: how many come before the all-zero pair, or refusal 22 if no such pair is inside the blob.
+pub fn reservations_of(blob: &[u8], a: Areas) -> Result<usize, Unreadable>
     ensures { result ≡ counted (read_reservations blob.now a) }
 {
     let at = a.reservations;
     if blob.len() < at {
-        return Reservations::Refused(Unreadable::Reservations);
+        return Err(Unreadable::Reservations);
     }
     pairs_from(blob, at, (blob.len() - at) / RESERVATION_SIZE)
 }

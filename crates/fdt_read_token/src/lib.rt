@@ -12,35 +12,29 @@ use fdt_format::{
     Areas, Entry, FDT_BEGIN_NODE, FDT_END, FDT_END_NODE, FDT_NOP, FDT_PROP, State, Step, Unreadable,
 };
 
-// The first place from `at` on and before `end` that holds a 0; without one, the greater of `at` and `end`.
+// The first place from `at` on and before `end` that holds a 0; without one, the greater of `at` and `end`, and no `None`, as
+// the definition `zero_from` of fdt_format has it.
 pub fn zero_from(blob: &[u8], at: usize, end: usize) -> usize
     requires { end ≤ length blob.now }
     ensures { result ≡ zero_from blob.now (end - at) at }
 {
-    if end < at {
-        return at;
-    }
-    let mut place = at;
-    while place < end {
+    for place in at..end {
         if blob[place] == 0 {
             return place;
         }
-        place += 1;
     }
-    end
+    at.max(end)
 }
 
-// The place after the last 0 from `from` on and before `to`; without one, `from`.
+// The place after the last 0 from `from` on and before `to`; without one, `from`, where strings without a 0 end.
 fn after_last_zero(blob: &[u8], from: usize, to: usize) -> usize
     requires { (from ≤ to) × (to ≤ length blob.now) }
     ensures { result ≡ after_last_zero blob.now from (to - from) }
 {
-    let mut end = to;
-    while from < end {
-        if blob[end - 1] == 0 {
-            return end;
+    for last in (from..to).rev() {
+        if blob[last] == 0 {
+            return last + 1;
         }
-        end -= 1;
     }
     from
 }
@@ -50,158 +44,136 @@ pub fn trim(blob: &[u8], a: Areas) -> Areas
     requires { Inside blob.now a }
     ensures { result ≡ trimmed blob.now a }
 {
-    let mut cut = a;
-    cut.strings_end = after_last_zero(blob, a.strings, a.strings_end);
-    cut
+    Areas {
+        strings_end: after_last_zero(blob, a.strings, a.strings_end),
+        ..a
+    }
 }
 
 // Reads the beginning of a node. Its name and padding must end inside the structure.
-fn begin_at(blob: &[u8], a: Areas, s: State) -> Step
+#[tactic(auto, unfolding(fdt_format::specs::Step::begin_at))]
+fn begin_at(blob: &[u8], a: Areas, s: State) -> Result<Step, Unreadable>
     requires { (s.at + 4 ≤ a.structure_end) × (Inside blob.now a × InStructure a s) }
     ensures { result ≡ begin_at blob.now a s }
 {
-    let at = s.at;
-    let name = at + 4;
+    let name = s.at + 4;
     let zero = zero_from(blob, name, a.structure_end);
     if a.structure_end <= zero {
-        return Step::Bad(Unreadable::Structure);
+        return Err(Unreadable::Structure);
     }
     let next = round_up(zero + 1, 4);
     if a.structure_end < next {
-        return Step::Bad(Unreadable::Structure);
+        return Err(Unreadable::Structure);
     }
-    Step::Entry(
-        Entry {
-            token: FDT_BEGIN_NODE,
-            place: at as u32,
-            name: name as u32,
-            size: 0,
-        },
-        State {
-            at: next,
-            depth: s.depth + 1,
-            takes_property: true,
-        },
-    )
+    let entry = Entry {
+        token: FDT_BEGIN_NODE,
+        place: s.at as u32,
+        name: name as u32,
+        size: 0,
+    };
+    let after = State {
+        at: next,
+        depth: s.depth + 1,
+        takes_property: true,
+    };
+    Ok(Step::Entry(entry, after))
 }
 
-// How many bytes the property at a place takes, or 0 if no whole property is there before `end`.
-pub fn property_size(blob: &[u8], at: usize, end: usize) -> usize
+// How many bytes the property at a place takes, if a whole property is there before `end`.
+#[tactic(auto, unfolding(fdt_format::specs::Step::size_at, fdt_format::specs::Step::whole_at))]
+pub fn property_size(blob: &[u8], at: usize, end: usize) -> Option<usize>
     requires { (at ≤ end) × (end ≤ length blob.now) }
     ensures { result ≡ size_at blob.now end at }
 {
     let left = end - at;
-    if left < 12 {
-        return 0;
+    if left < 12 || read_u32(blob, at) != FDT_PROP {
+        return None;
     }
-    if read_u32(blob, at) != FDT_PROP {
-        return 0;
-    }
-    let size = 12 + (read_u32(blob, at + 4) as usize + 3) / 4 * 4;
+    let size = 12 + round_up(read_u32(blob, at + 4) as usize, 4);
     if left < size {
-        return 0;
+        return None;
     }
-    size
+    Some(size)
 }
 
 // Reads a property. It must be whole inside the structure, and its name must begin inside the strings, which end with a 0.
-fn property_at(blob: &[u8], a: Areas, s: State) -> Step
+fn property_at(blob: &[u8], a: Areas, s: State) -> Result<Step, Unreadable>
     requires { Trimmed blob.now a × InStructure a s }
     ensures { result ≡ property_at blob.now a s }
 {
     let at = s.at;
-    let whole = property_size(blob, at, a.structure_end);
-    if whole == 0 {
-        return Step::Bad(Unreadable::Structure);
-    }
+    let whole = property_size(blob, at, a.structure_end).ok_or(Unreadable::Structure)?;
     let size = read_u32(blob, at + 4);
     let offset = read_u32(blob, at + 8) as usize;
     let name = a.strings + offset;
     if a.strings_end <= name {
-        return Step::Bad(Unreadable::NameOffset);
+        return Err(Unreadable::NameOffset);
     }
     let name_place = name as u32;
-    let next = at + whole;
-    Step::Entry(
-        Entry {
-            token: FDT_PROP,
-            place: at as u32,
-            name: name_place,
-            size,
-        },
-        State {
-            at: next,
-            depth: s.depth,
-            takes_property: true,
-        },
-    )
+    let entry = Entry {
+        token: FDT_PROP,
+        place: at as u32,
+        name: name_place,
+        size,
+    };
+    let after = State {
+        at: at + whole,
+        depth: s.depth,
+        takes_property: true,
+    };
+    Ok(Step::Entry(entry, after))
 }
 
 // Reads the end of a node. A node must be open.
-fn end_at(s: State) -> Step
+#[tactic(auto, unfolding(fdt_format::specs::Step::end_at))]
+fn end_at(s: State) -> Result<Step, Unreadable>
     requires { s.at < 2 ^ 32 }
     ensures { result ≡ end_at s }
 {
-    let at = s.at;
     if s.depth == 0 {
-        return Step::Bad(Unreadable::Structure);
+        return Err(Unreadable::Structure);
     }
-    Step::Entry(
-        Entry {
-            token: FDT_END_NODE,
-            place: at as u32,
-            name: 0,
-            size: 0,
-        },
-        State {
-            at: at + 4,
-            depth: s.depth - 1,
-            takes_property: false,
-        },
-    )
+    let entry = Entry {
+        token: FDT_END_NODE,
+        place: s.at as u32,
+        name: 0,
+        size: 0,
+    };
+    let after = State {
+        at: s.at + 4,
+        depth: s.depth - 1,
+        takes_property: false,
+    };
+    Ok(Step::Entry(entry, after))
 }
 
 // Reads the final word. No node may be open, and the structure must end here.
-fn final_at(a: Areas, s: State) -> Step
+#[tactic(auto, unfolding(fdt_format::specs::Step::final_at))]
+fn final_at(a: Areas, s: State) -> Result<Step, Unreadable>
     requires { s.at < 2 ^ 32 }
     ensures { result ≡ final_at a s }
 {
-    if s.depth != 0 {
-        return Step::Bad(Unreadable::Structure);
+    if s.depth != 0 || s.at + 4 != a.structure_end {
+        return Err(Unreadable::Structure);
     }
-    if s.at + 4 != a.structure_end {
-        return Step::Bad(Unreadable::Structure);
-    }
-    Step::Final
+    Ok(Step::Final)
 }
 
 // Reads the token at a state. The strings must have been cut after their last 0.
-pub fn step_at(blob: &[u8], a: Areas, s: State) -> Step
+#[tactic(auto, unfolding(fdt_format::specs::Step::step_at))]
+pub fn step_at(blob: &[u8], a: Areas, s: State) -> Result<Step, Unreadable>
     requires { Trimmed blob.now a × InStructure a s }
     ensures { result ≡ step_at blob.now a s }
 {
-    let at = s.at;
-    if a.structure_end - at < 4 {
-        return Step::Bad(Unreadable::Structure);
+    if a.structure_end - s.at < 4 {
+        return Err(Unreadable::Structure);
     }
-    let word = read_u32(blob, at);
-    if word == FDT_BEGIN_NODE {
-        return begin_at(blob, a, s);
+    match read_u32(blob, s.at) {
+        FDT_BEGIN_NODE => begin_at(blob, a, s),
+        FDT_END_NODE => end_at(s),
+        FDT_PROP if s.takes_property => property_at(blob, a, s),
+        FDT_NOP => Ok(Step::Skip),
+        FDT_END => final_at(a, s),
+        _ => Err(Unreadable::Structure),
     }
-    if word == FDT_END_NODE {
-        return end_at(s);
-    }
-    if word == FDT_PROP {
-        if s.takes_property {
-            return property_at(blob, a, s);
-        }
-        return Step::Bad(Unreadable::Structure);
-    }
-    if word == FDT_NOP {
-        return Step::Skip;
-    }
-    if word == FDT_END {
-        return final_at(a, s);
-    }
-    Step::Bad(Unreadable::Structure)
 }

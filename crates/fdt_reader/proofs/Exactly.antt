@@ -10,6 +10,7 @@ use native.Mathlib.Omega.{arith}
 use borrow.Author.Tests.{ltb-true, ltb-false}
 use lib.Dec.{ltb}
 use lib.ListN.{length, length-map}
+use Rattle.std.specs.declared.result.Result.TheVariants.{Ok, Err}
 use Rattle.fdt_format.specs.declared.Entry.{Entry}
 use Rattle.fdt_format.specs.declared.Unreadable.TheVariants.{Reservations, Structure, NameOffset}
 use Rattle.fdt_format.specs.Description.{Description}
@@ -23,11 +24,9 @@ use Rattle.fdt_walk.specs.Depth.{most_open, NestedAtMost}
 use Rattle.fdt_walk.specs.Refusals.{number_of as refusalNumber}
 use Rattle.fdt_walk.specs.ReaderWalk.{reads, reader_walk}
 use Rattle.fdt_walk.proofs.Capped.{Shallow, shallow-nodes, reads_exactly, deep_stops}
-use Rattle.fdt_reader.specs.declared.ReadAnswer.{ReadAnswer}
-use Rattle.fdt_reader.specs.declared.ReadAnswer.TheVariants as answer
-use Rattle.fdt_reader.specs.declared.Surveyed.{Surveyed}
+use Rattle.fdt_reader.specs.declared.ReadError.TheVariants as error
 use Rattle.fdt_reader.specs.Numbers.{GoodFront, Describes, Numbered, first_fault, short_list, done, Surveys, refuses, readable, Tells}
-use Rattle.fdt_reader.specs.Reader.{number_of, survey_number, no_values, values_of, Outcome, accepted, from_walk, outcome, surveyed_as, survey_of, filled, Read}
+use Rattle.fdt_reader.specs.Reader.{ReadAnswer, SurveyAnswer, number_of, survey_number, no_values, values_of, Outcome, accepted, from_walk, outcome, surveyed_as, survey_of, filled, Read}
 use Rattle.fdt_reader.proofs.Outcomes.{Way, faulty, all_read, way, from-walk, fault-refused, parts_front, refused-read, accepted-short, accepted-done}
 
 -- the number of a refusal is not 0
@@ -64,11 +63,11 @@ module _ (b : List ℕ) where
 
     -- what the reader does then depends on the room of the list alone
     module _ (list : List ℕ) where
-      described-short : length list / 4 < length (events d.nodes []) → Read b list list answer.ShortList
+      described-short : length list / 4 < length (events d.nodes []) → Read b list list (Err error.ShortList)
       described-short less = accepted-short b list described-read (omega (arith, described-count))
 
       described-done : length (events d.nodes []) ≤ length list / 4
-          → Read b list (filled list parts.entries) (answer.Done d.boot (length d.reservations) (length (events d.nodes [])))
+          → Read b list (filled list parts.entries) (Ok (record { boot = d.boot; reservations = length d.reservations; entries = length (events d.nodes []) }))
       described-done room = rw (parts.boot, ← described-count) at (accepted-done b list described-read (omega (arith, described-count)))
 
 -- ---- each answer exactly when
@@ -78,17 +77,17 @@ by_cases : {A : Type 0} {x : A} (Case : A → Type 0) → ((y : A) → Case y �
 by_cases Case fixes holds y = (λ q. subst Case (sym (fixes holds.0 holds.1) ∙ q) holds.1, fixes y)
 
 module _ (b : List ℕ) where
-  by_survey : {o : Outcome} → Way b o → (s : Surveyed) × Surveys b s
+  by_survey : {o : Outcome} → Way b o → (s : SurveyAnswer) × Surveys b s
   by_survey (faulty f) = (_, refuses f)
   by_survey (all_read o {ts} w) = (_, readable (walk_describes b o ts w).1)
 
-  surveys : {s : Surveyed} → Surveys b s → survey_of b ≡ s
+  surveys : {s : SurveyAnswer} → Surveys b s → survey_of b ≡ s
   unfolding survey_of surveyed_as
   surveys (refuses f) = rw (fault-refused b f)
   surveys (readable h) = rw (described-read b h, described-count b h)
 
   -- a survey answers s exactly if its case holds
-  pub survey_exactly : {r : Surveyed} → r ≡ survey_of b → (s : Surveyed) → (r ≡ s) ↔ Surveys b s
+  pub survey_exactly : {r : SurveyAnswer} → r ≡ survey_of b → (s : SurveyAnswer) → (r ≡ s) ↔ Surveys b s
   survey_exactly q = by_cases (Surveys b) (λ _ h. q ∙ surveys h) (by_survey (way b))
 
 module _ (b list : List ℕ) where
@@ -121,7 +120,7 @@ module _ {b before after : List ℕ} {r : ReadAnswer} (call : Read b before afte
   number_exactly = by_cases (Numbered b before) (λ _. numbered) (by_number b before (way b))
 
   -- it is the number of a survey, unless the list is too short
-  pub same_number : {s : Surveyed} → s ≡ survey_of b → (number_of r ≡ 30 → ⊥) → number_of r ≡ survey_number s
+  pub same_number : {s : SurveyAnswer} → s ≡ survey_of b → (number_of r ≡ 30 → ⊥) → number_of r ≡ survey_number s
   same_number {s} q h = by_case ((number_exactly _).0 refl) h
     where
       by_case : {n : ℕ} → Numbered b before n → (n ≡ 30 → ⊥) → n ≡ survey_number s
@@ -163,6 +162,6 @@ module _ {b before after : List ℕ} {r : ReadAnswer} (call : Read b before afte
 
 -- and has no values
 pub refused_valueless : (r : ReadAnswer) → (number_of r ≡ 0 → ⊥) → values_of r ≡ no_values
-refused_valueless (answer.Done boot pairs entries) h = absurd (h refl)
-refused_valueless (answer.Refused refusal) h = refl
-refused_valueless answer.ShortList h = refl
+refused_valueless (Ok values) h = absurd (h refl)
+refused_valueless (Err (error.Refused refusal)) h = refl
+refused_valueless (Err error.ShortList) h = refl

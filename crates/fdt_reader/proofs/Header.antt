@@ -10,27 +10,28 @@ use mir.Syntax.{w8}
 use mir.Val.{Fits}
 use lib.Dec.{eqb, leb}
 use lib.ListN.{length, get_or}
+use Rattle.std.specs.declared.result.Result.{Result}
+use Rattle.std.specs.declared.result.Result.TheVariants.{Ok, Err}
 use Rattle.fdt_bytes.specs.BigEndian.{word_at}
 use Rattle.fdt_bytes.proofs.BigEndian.{word_bytes}
 use Rattle.fdt_bytes.proofs.Tests.{both}
 use Rattle.fdt_format.specs.declared.Areas.{Areas}
-use Rattle.fdt_format.specs.declared.Unreadable.{Unreadable as Reason}
 use Rattle.fdt_format.specs.declared.Unreadable.TheVariants.{Reservations}
 use Rattle.fdt_format.specs.Description.{Reservation}
 use Rattle.fdt_format.specs.Reading.{areas_of, good_words, good_areas, good_header, read_reservations}
 use Rattle.fdt_format.specs.Walk.{walk_start}
 use Rattle.fdt_header.specs.Header.{magic, version, last_compatible, header_size}
-use Rattle.fdt_read_header.specs.declared.Reservations.TheVariants.{Count, Refused}
 use Rattle.fdt_read_header.specs.Counted.{counted}
 use Rattle.fdt_read_token.specs.Inside.{Inside}
 use Rattle.fdt_read_token.specs.Trimmed.{trimmed, Trimmed}
 use Rattle.fdt_read_token.proofs.Trimmed.{trimmed_is}
+use Rattle.fdt_walk.specs.declared.Fault.{Fault}
 use Rattle.fdt_walk.specs.declared.Refusal.TheVariants.{Header, Unreadable}
+use Rattle.fdt_walk.specs.Token.{placed}
 use Rattle.fdt_walk.specs.ReaderWalk.{ReaderWalk, stops, reads, reader_walk}
 use Rattle.fdt_walk.proofs.Walked.{walk-trimmed}
-use Rattle.fdt_reader.specs.declared.Surveyed.TheVariants as surveyed
-use Rattle.fdt_reader.specs.Pass.{surveyed_walk}
-use Rattle.fdt_reader.specs.Reader.{refused_at, from_walk, from_reservations, outcome, surveyed_as, survey_of}
+use Rattle.fdt_reader.specs.Pass.{counted_walk}
+use Rattle.fdt_reader.specs.Reader.{SurveyAnswer, refused_at, from_walk, from_reservations, outcome, surveyed_as, survey_of}
 
 -- ---- a good header
 
@@ -92,30 +93,35 @@ start-trimmed b = walk-trimmed b (areas_of b) (areas_order b).1 (walk_start (are
 
 -- ---- the answer of a survey
 
+-- what a survey answers after the reservations, by the count of the entries
+abbrev pub surveyed_from : Areas → ℕ → Result ℕ Fault → SurveyAnswer
+surveyed_from cut n (Ok m) = Ok (record { areas = cut; reservations = n; entries = m })
+surveyed_from cut n (Err fault) = Err fault
+
 module _ (b : List ℕ) (a cut : Areas) where
-  walk-answer : (rs : List Reservation) (w : ReaderWalk) → surveyed_walk cut (length rs) w ≡ surveyed_as cut (from_walk rs w)
-  unfolding surveyed_walk surveyed_as from_walk
+  walk-answer : (rs : List Reservation) (w : ReaderWalk) → surveyed_from cut (length rs) (counted_walk w) ≡ surveyed_as cut (from_walk rs w)
+  unfolding counted_walk surveyed_as from_walk
   walk-answer rs (stops fault) = refl
   walk-answer rs (reads ts) = refl
 
-  pair_answer : (rs : Option (List Reservation)) (reason : Reason) → Refused reason ≡ counted rs
-      → surveyed.Refused (record { refusal = Unreadable reason; place = a.reservations }) ≡ surveyed_as cut (from_reservations b a rs)
+  pair_answer : (rs : Option (List Reservation)) {fault : Fault} → ◌≡◌ {A = Result ℕ Fault} (Err fault) (placed a.reservations (counted rs)) → Err fault ≡ surveyed_as cut (from_reservations b a rs)
   unfolding counted surveyed_as from_reservations refused_at
-  pair_answer none reason e = let same : reason ≡ Reservations = cc in rw same
-  pair_answer (some rs) reason e = absurd (let z : ◌≡◌ {A = ℕ} 0 1 = cc in omega arith)
+  pair_answer none {fault} e = let same : fault ≡ record { refusal = Unreadable Reservations; place = a.reservations } = cc in ap Err same
+  pair_answer (some rs) e = absurd (let z : ◌≡◌ {A = ℕ} 0 1 = cc in omega arith)
 
-  structure-answer : (rs : Option (List Reservation)) (n : ℕ) → Count n ≡ counted rs → surveyed_walk cut n (reader_walk b a (walk_start a)) ≡ surveyed_as cut (from_reservations b a rs)
+  structure-answer : (rs : Option (List Reservation)) (n : ℕ) → ◌≡◌ {A = Result ℕ Fault} (Ok n) (placed a.reservations (counted rs))
+      → surveyed_from cut n (counted_walk (reader_walk b a (walk_start a))) ≡ surveyed_as cut (from_reservations b a rs)
   unfolding counted from_reservations
   structure-answer none n e = absurd (let z : ◌≡◌ {A = ℕ} 0 1 = cc in omega arith)
   structure-answer (some rs) n e = let same : n ≡ length rs = cc in rw same (walk-answer rs (reader_walk b a (walk_start a)))
 
 module _ (b : List ℕ) where
-  pub bad_words : good_words b ≡ false → surveyed.Refused (record { refusal = Header; place = 0 }) ≡ survey_of b
+  pub bad_words : good_words b ≡ false → Err (record { refusal = Header; place = 0 }) ≡ survey_of b
   unfolding survey_of surveyed_as outcome refused_at good_header
   bad_words w = rw w
 
   module _ {a : Areas} (q : a ≡ areas_of b) where
-    pub bad_areas : good_areas a (length b) ≡ false → surveyed.Refused (record { refusal = Header; place = 0 }) ≡ survey_of b
+    pub bad_areas : good_areas a (length b) ≡ false → Err (record { refusal = Header; place = 0 }) ≡ survey_of b
     unfolding survey_of surveyed_as outcome refused_at good_header
     bad_areas g = rw (← q, g, and-false (good_words b))
 
@@ -123,15 +129,15 @@ module _ (b : List ℕ) where
     unfolding good_header
     header-good w g = rw (w, ← q) g
 
-    pub no_pair : good_header b ≡ true → {reason : Reason} → Refused reason ≡ counted (read_reservations b a)
-        → surveyed.Refused (record { refusal = Unreadable reason; place = a.reservations }) ≡ survey_of b
-    unfolding survey_of outcome
-    no_pair h {reason} e = rw (h, ← q) (pair_answer b a (trimmed b a) (read_reservations b a) reason e)
+    module _ (h : good_header b ≡ true) where
+      pub no_pair : {fault : Fault} → ◌≡◌ {A = Result ℕ Fault} (Err fault) (placed a.reservations (counted (read_reservations b a))) → Err fault ≡ survey_of b
+      unfolding survey_of outcome
+      no_pair e = rw (h, ← q) (pair_answer b a (trimmed b a) (read_reservations b a) e)
 
-    pub structure-surveyed : good_header b ≡ true → {n : ℕ} → Count n ≡ counted (read_reservations b a)
-        → surveyed_walk (trimmed b a) n (reader_walk b (trimmed b a) (walk_start (trimmed b a))) ≡ survey_of b
-    unfolding survey_of outcome
-    structure-surveyed h {n} e =
-        rw (h, q)
-        (ap (surveyed_walk (trimmed b (areas_of b)) n) (start-trimmed b)
-        ∙ structure-answer b (areas_of b) (trimmed b (areas_of b)) (read_reservations b (areas_of b)) n (rw q at e))
+      pub structure-surveyed : {n : ℕ} {cut : Areas} {r : Result ℕ Fault} → ◌≡◌ {A = Result ℕ Fault} (Ok n) (placed a.reservations (counted (read_reservations b a))) → cut ≡ trimmed b a
+          → r ≡ counted_walk (reader_walk b cut (walk_start cut)) → surveyed_from cut n r ≡ survey_of b
+      unfolding survey_of outcome
+      structure-surveyed {n} e t w =
+          rw (w, t, h, q)
+          (ap (λ (w : ReaderWalk). surveyed_from (trimmed b (areas_of b)) n (counted_walk w)) (start-trimmed b)
+          ∙ structure-answer b (areas_of b) (trimmed b (areas_of b)) (read_reservations b (areas_of b)) n (rw q at e))

@@ -6,6 +6,7 @@ use mathlib.Core.Option.{Option, none, some}
 use Prim.Native.Nat.{ℕ, ◌/◌, ◌≤◌, ◌<◌}
 use borrow.Author.Tests.{lt-ltb, le-ltb}
 use lib.ListN.{length}
+use Rattle.std.specs.declared.result.Result.TheVariants.{Ok, Err}
 use Rattle.fdt_format.specs.declared.Areas.{Areas}
 use Rattle.fdt_format.specs.declared.Entry.{Entry}
 use Rattle.fdt_format.specs.Description.{Reservation, Description}
@@ -16,7 +17,7 @@ use Rattle.fdt_walk.specs.declared.Fault.{Fault}
 use Rattle.fdt_walk.specs.declared.Refusal.TheVariants.{Header}
 use Rattle.fdt_walk.specs.ReaderWalk.{ReaderWalk, stops, reads, reader_walk}
 use Rattle.fdt_walk.proofs.Reached.{stops_exactly}
-use Rattle.fdt_reader.specs.declared.ReadAnswer.TheVariants as answer
+use Rattle.fdt_reader.specs.declared.ReadError.TheVariants as error
 use Rattle.fdt_reader.specs.Numbers.{GoodFront, FirstFault, header, reservations, token}
 use Rattle.fdt_reader.specs.Reader.{Outcome, refused, accepted, refused_at, from_walk, from_reservations, outcome, answered_as, answer_of, filled, list_as, list_after, Read}
 
@@ -67,17 +68,17 @@ module _ (b : List ℕ) where
 
   module _ (list : List ℕ) where
     -- the first fault is answered
-    pub refused-read : {f : Fault} → outcome b ≡ refused f → Read b list list (answer.Refused f.refusal)
+    pub refused-read : {f : Fault} → outcome b ≡ refused f → Read b list list (Err (error.Refused f.refusal))
     unfolding answer_of answered_as list_after list_as
     refused-read e = record { answer = rw e; list = rw e }
 
     module _ {rs : List Reservation} {ts : List Entry} (e : outcome b ≡ accepted rs ts) where
       -- the list has too little room
-      pub accepted-short : length list / 4 < length ts → Read b list list answer.ShortList
+      pub accepted-short : length list / 4 < length ts → Read b list list (Err error.ShortList)
       unfolding answer_of answered_as list_after list_as
       accepted-short less = record { answer = rw (e, lt-ltb _ _ less); list = rw (e, lt-ltb _ _ less) }
 
       -- the list has room
-      pub accepted-done : length ts ≤ length list / 4 → Read b list (filled list ts) (answer.Done (areas_of b).boot (length rs) (length ts))
+      pub accepted-done : length ts ≤ length list / 4 → Read b list (filled list ts) (Ok (record { boot = (areas_of b).boot; reservations = length rs; entries = length ts }))
       unfolding answer_of answered_as list_after list_as
       accepted-done room = record { answer = rw (e, le-ltb _ _ room); list = rw (e, le-ltb _ _ room) }

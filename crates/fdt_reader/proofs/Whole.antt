@@ -5,6 +5,8 @@ use Prim.Native.Nat.{ℕ, zero, suc, ◌+◌, ◌*◌, ◌/◌, ◌≤◌, ◌<�
 use native.Mathlib.Omega.{arith}
 use borrow.Author.Tests.{lt-ltb, le-ltb}
 use lib.ListN.{length, set, length-append}
+use Rattle.std.specs.declared.result.Result.{Result}
+use Rattle.std.specs.declared.result.Result.TheVariants.{Ok, Err}
 use Rattle.fdt_format.specs.declared.Areas.{Areas}
 use Rattle.fdt_format.specs.declared.Entry.{Entry}
 use Rattle.fdt_format.specs.Walk.{walk_start}
@@ -13,8 +15,7 @@ use Rattle.fdt_walk.specs.ReaderWalk.{ReaderWalk, stops, reads, reader_walk}
 use Rattle.fdt_reader.specs.declared.Cursor.{Cursor}
 use Rattle.fdt_reader.specs.declared.Progress.{Progress}
 use Rattle.fdt_reader.specs.declared.Progress.TheVariants as progress
-use Rattle.fdt_reader.specs.declared.Surveyed.TheVariants as surveyed
-use Rattle.fdt_reader.specs.Pass.{put, faulty, complete, put_all, result, result_at, Placed, Stops, Continues, first, surveyed_walk}
+use Rattle.fdt_reader.specs.Pass.{put, faulty, complete, put_all, result, result_at, Placed, Stops, Continues, first, counted_walk}
 use Rattle.fdt_reader.specs.Reader.{listed, filled}
 
 -- where a pass begins
@@ -23,7 +24,7 @@ unfolding walk_start
 first-placed h = record { stands = record { within = h; shallow = omega arith }; few = omega arith }
 
 -- no node is open there, so none ends
-pub never_ended : {b : List ℕ} {a : Areas} {list list' : List ℕ} {d : Cursor} {A : Type 0} → Continues b a list (first a) list' (progress.Ended d) → A
+pub never_ended : {b : List ℕ} {a : Areas} {list list' : List ℕ} {d : Cursor} {A : Type 0} → Continues b a list (first a) list' (Ok (progress.Ended d)) → A
 unfolding Stops walk_start
 never_ended h = absurd (omega (arith, h.stops.depth))
 
@@ -36,29 +37,28 @@ counts (t ∷ ts) n =
     let e : n + 1 + length ts ≡ n + suc (length ts) = omega arith in
     rw (le-ltb n (0 / 4) (omega arith)) (counts ts (n + 1) ∙ ap (λ (k : ℕ). complete k []) e)
 
-module _ (a : Areas) (reservations : ℕ) where
-  walk-counted : (n : ℕ) (list' : List ℕ) (w : ReaderWalk) → result [] 0 w ≡ complete n list' → surveyed.Readable a reservations n ≡ surveyed_walk a reservations w
-  unfolding result surveyed_walk
-  walk-counted n list' (stops fault) q = absurd (let z : ◌≡◌ {A = ℕ} 0 1 = cc in omega arith)
-  walk-counted n list' (reads ts) q =
-      let k : n ≡ 0 + length ts = cc (counts ts 0) in
-      let e : n ≡ length ts = omega arith in
-      ap (surveyed.Readable a reservations) e
+walk-counted : (n : ℕ) (list' : List ℕ) (w : ReaderWalk) → result [] 0 w ≡ complete n list' → Ok n ≡ counted_walk w
+unfolding result counted_walk
+walk-counted n list' (stops fault) q = absurd (let z : ◌≡◌ {A = ℕ} 0 1 = cc in omega arith)
+walk-counted n list' (reads ts) q =
+    let k : n ≡ 0 + length ts = cc (counts ts 0) in
+    let e : n ≡ length ts = omega arith in
+    ap Ok e
 
-  walk_refused : (fault : Fault) (w : ReaderWalk) → result [] 0 w ≡ faulty fault → surveyed.Refused fault ≡ surveyed_walk a reservations w
-  unfolding result surveyed_walk
-  walk_refused fault (stops g) q = let e : fault ≡ g = cc in ap surveyed.Refused e
-  walk_refused fault (reads ts) q = absurd (let z : ◌≡◌ {A = ℕ} 0 1 = cc (counts ts 0) in omega arith)
+walk_faulty : (fault : Fault) (w : ReaderWalk) → result [] 0 w ≡ faulty fault → Err fault ≡ counted_walk w
+unfolding result counted_walk
+walk_faulty fault (stops g) q = let e : fault ≡ g = cc in ap Err e
+walk_faulty fault (reads ts) q = absurd (let z : ◌≡◌ {A = ℕ} 0 1 = cc (counts ts 0) in omega arith)
 
-  -- what a pass without room answers is what a survey answers
-  module _ {b : List ℕ} {list' : List ℕ} where
-    pub survey_complete : {n : ℕ} → Continues b a [] (first a) list' (progress.Complete n) → surveyed.Readable a reservations n ≡ surveyed_walk a reservations (reader_walk b a (walk_start a))
-    unfolding result_at
-    survey_complete h = walk-counted _ list' (reader_walk b a (walk_start a)) h.same
+-- what a pass without room comes to is the count of the walk
+module _ {a : Areas} {b : List ℕ} {list' : List ℕ} where
+  pub count_complete : {n : ℕ} → Continues b a [] (first a) list' (Ok (progress.Complete n)) → Ok n ≡ counted_walk (reader_walk b a (walk_start a))
+  unfolding result_at
+  count_complete h = walk-counted _ list' (reader_walk b a (walk_start a)) h.same
 
-    pub survey_refused : {fault : Fault} → Continues b a [] (first a) list' (progress.Refused fault) → surveyed.Refused fault ≡ surveyed_walk a reservations (reader_walk b a (walk_start a))
-    unfolding result_at
-    survey_refused h = walk_refused _ (reader_walk b a (walk_start a)) h.same
+  pub count_faulty : {fault : Fault} → Continues b a [] (first a) list' (Err fault) → Err fault ≡ counted_walk (reader_walk b a (walk_start a))
+  unfolding result_at
+  count_faulty h = walk_faulty _ (reader_walk b a (walk_start a)) h.same
 
 -- ---- with room
 
@@ -103,11 +103,11 @@ unfolding result
 walk-filled list list' ts w n e room q = let f : put_all list 0 ts ≡ complete (0 + length ts) (filled list ts) = fills ts [] list 0 refl (omega arith) in cc
 
 -- a pass over a good structure fills a list that has room
-pub fills_list : {b : List ℕ} {a : Areas} (list : List ℕ) {list' : List ℕ} (r : Progress) (ts : List Entry) → reader_walk b a (walk_start a) ≡ reads ts → length ts ≤ length list / 4
+pub fills_list : {b : List ℕ} {a : Areas} (list : List ℕ) {list' : List ℕ} (r : Result Progress Fault) (ts : List Entry) → reader_walk b a (walk_start a) ≡ reads ts → length ts ≤ length list / 4
     → Continues b a list (first a) list' r → list' ≡ filled list ts
 unfolding result_at result
-fills_list list (progress.Ended d) ts e room h = never_ended h
-fills_list {b} {a} list {list'} (progress.Complete n) ts e room h = walk-filled list list' ts (reader_walk b a (walk_start a)) n e room h.same
-fills_list {b} {a} list (progress.Refused fault) ts e room h =
+fills_list list (Ok (progress.Ended d)) ts e room h = never_ended h
+fills_list {b} {a} list {list'} (Ok (progress.Complete n)) ts e room h = walk-filled list list' ts (reader_walk b a (walk_start a)) n e room h.same
+fills_list {b} {a} list (Err fault) ts e room h =
     let f : put_all list 0 ts ≡ complete (0 + length ts) (filled list ts) = fills ts [] list 0 refl (omega arith) in
     absurd (let z : ◌≡◌ {A = ℕ} 0 1 = cc (rw e at h.same) in omega arith)

@@ -1,6 +1,6 @@
 -- When a survey gives which answer, and the reader which number. The first fault wins. Also what an accepted call tells (document
 -- 02, request 1/14).
-use Rattle.std.specs.Prelude.{◌≡◌, true, false, List, [], map, ℕ, ◌/◌, ◌≤◌, ◌<◌, length}
+use Rattle.std.specs.Prelude.{◌≡◌, true, false, List, [], map, ℕ, ◌/◌, ◌≤◌, ◌<◌, length, Ok, Err}
 use Rattle.std.proofs.Math.Option.{none, some}
 use Rattle.fdt_format.specs.declared.Entry.{Entry}
 use Rattle.fdt_format.specs.declared.Unreadable.TheVariants.{Reservations}
@@ -14,10 +14,7 @@ use Rattle.fdt_walk.specs.declared.Refusal.TheVariants.{Header, Unreadable}
 use Rattle.fdt_walk.specs.Depth.{most_open, NestedAtMost}
 use Rattle.fdt_walk.specs.Reached.{Meets}
 use Rattle.fdt_walk.specs.Refusals.{number_of as refusalNumber}
-use Rattle.fdt_reader.specs.declared.ReadAnswer.{ReadAnswer}
-use Rattle.fdt_reader.specs.declared.Surveyed.{Surveyed}
-use Rattle.fdt_reader.specs.declared.Surveyed.TheVariants.{Readable, Refused}
-use Rattle.fdt_reader.specs.Reader.{number_of, values_of, filled}
+use Rattle.fdt_reader.specs.Reader.{ReadAnswer, SurveyAnswer, number_of, values_of, filled}
 
 -- the header is good, and an all-zero pair ends the reservations inside the blob
 pub record GoodFront (b : List ℕ) : Type 0 where
@@ -50,11 +47,11 @@ pub data Numbered (b list : List ℕ) : ℕ → Type 0 where
   done : {d : Description} → Describes b d → length (events d.nodes []) ≤ length list / 4 → Numbered b list 0
 
 -- what a survey answers
-pub data Surveys (b : List ℕ) : Surveyed → Type 0 where
+pub data Surveys (b : List ℕ) : SurveyAnswer → Type 0 where
   -- the blob has a fault
-  refuses : {f : Fault} → FirstFault b f → Surveys b (Refused f)
+  refuses : {f : Fault} → FirstFault b f → Surveys b (Err f)
   -- all is good: its areas, with the strings cut, and how many reservations and entries it has
-  readable : {d : Description} → Describes b d → Surveys b (Readable (trimmed b (areas_of b)) (length d.reservations) (length (events d.nodes [])))
+  readable : {d : Description} → Describes b d → Surveys b (Ok (record { areas = trimmed b (areas_of b); reservations = length d.reservations; entries = length (events d.nodes []) }))
 
 -- what an accepted call tells of a description: the boot number and the counts are its own, and the entries at the front of the
 -- list are those that the reading finds, with their places; they mean its events

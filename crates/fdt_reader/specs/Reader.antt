@@ -1,5 +1,5 @@
 -- What the reader answers of a blob, and what its list then holds (document 02, request 1/14).
-use Rattle.std.specs.Prelude.{◌≡◌, cond, List, [], ◌∷◌, ◌++◌, ℕ, ◌*◌, ◌/◌, ltb, length, drop}
+use Rattle.std.specs.Prelude.{◌≡◌, cond, List, [], ◌∷◌, ◌++◌, ℕ, ◌*◌, ◌/◌, ltb, length, drop, Result, Ok, Err}
 use Rattle.std.proofs.Math.Option.{Option, none, some}
 use Rattle.fdt_format.specs.declared.Areas.{Areas}
 use Rattle.fdt_format.specs.declared.Entry.{Entry}
@@ -13,29 +13,36 @@ use Rattle.fdt_walk.specs.declared.Refusal.{Refusal}
 use Rattle.fdt_walk.specs.declared.Refusal.TheVariants.{Header, Unreadable}
 use Rattle.fdt_walk.specs.Refusals.{number_of as refusalNumber}
 use Rattle.fdt_walk.specs.ReaderWalk.{ReaderWalk, stops, reads, reader_walk}
-use Rattle.fdt_reader.specs.declared.ReadAnswer.{ReadAnswer}
-use Rattle.fdt_reader.specs.declared.ReadAnswer.TheVariants as answer
+use Rattle.fdt_reader.specs.declared.ReadError.{ReadError}
+use Rattle.fdt_reader.specs.declared.ReadError.TheVariants as error
 use Rattle.fdt_reader.specs.declared.Surveyed.{Surveyed}
-use Rattle.fdt_reader.specs.declared.Surveyed.TheVariants as surveyed
 use Rattle.fdt_reader.specs.declared.Values.{Values}
+
+-- the answer of the reader: the values, or why it refuses a call
+abbrev pub ReadAnswer : Type 0
+ReadAnswer = Result Values ReadError
+
+-- the answer of a survey: what is known of a good blob, or the first fault
+abbrev pub SurveyAnswer : Type 0
+SurveyAnswer = Result Surveyed Fault
 
 -- ---- the answer as numbers
 
 -- the number of an answer
 abbrev pub number_of : ReadAnswer → ℕ
-number_of (answer.Done boot reservations entries) = 0
-number_of (answer.Refused refusal) = refusalNumber refusal
-number_of answer.ShortList = 30
+number_of (Ok values) = 0
+number_of (Err (error.Refused refusal)) = refusalNumber refusal
+number_of (Err error.ShortList) = 30
 
 -- the number of a survey's answer
-abbrev pub survey_number : Surveyed → ℕ
-survey_number (surveyed.Readable a reservations entries) = 0
-survey_number (surveyed.Refused fault) = refusalNumber fault.refusal
+abbrev pub survey_number : SurveyAnswer → ℕ
+survey_number (Ok survey) = 0
+survey_number (Err fault) = refusalNumber fault.refusal
 
 -- the place of a survey's fault; 0 if there is none
-abbrev pub fault_place : Surveyed → ℕ
-fault_place (surveyed.Readable a reservations entries) = 0
-fault_place (surveyed.Refused fault) = fault.place
+abbrev pub fault_place : SurveyAnswer → ℕ
+fault_place (Ok survey) = 0
+fault_place (Err fault) = fault.place
 
 -- all 0
 abbrev pub no_values : Values
@@ -43,9 +50,9 @@ no_values = record { boot = 0; reservations = 0; entries = 0 }
 
 -- all 0 if refused
 abbrev pub values_of : ReadAnswer → Values
-values_of (answer.Done boot reservations entries) = record { boot = boot; reservations = reservations; entries = entries }
-values_of (answer.Refused refusal) = no_values
-values_of answer.ShortList = no_values
+values_of (Ok values) = values
+values_of (Err (error.Refused refusal)) = no_values
+values_of (Err error.ShortList) = no_values
 
 -- ---- what is found in a blob
 
@@ -75,18 +82,18 @@ outcome b = cond (good_header b) (from_reservations b (areas_of b) (read_reserva
 -- ---- the answers
 
 -- the areas that a survey returns, and the counts
-unfoldable pub surveyed_as : Areas → Outcome → Surveyed
-surveyed_as a (refused fault) = surveyed.Refused fault
-surveyed_as a (accepted rs ts) = surveyed.Readable a (length rs) (length ts)
+unfoldable pub surveyed_as : Areas → Outcome → SurveyAnswer
+surveyed_as a (refused fault) = Err fault
+surveyed_as a (accepted rs ts) = Ok (record { areas = a; reservations = length rs; entries = length ts })
 
 -- what a survey answers of a blob
-unfoldable pub survey_of : List ℕ → Surveyed
+unfoldable pub survey_of : List ℕ → SurveyAnswer
 survey_of b = surveyed_as (trimmed b (areas_of b)) (outcome b)
 
 -- the reader's answer, by the boot number and the length of the list: last, whether four numbers for each entry have room
 unfoldable pub answered_as : ℕ → ℕ → Outcome → ReadAnswer
-answered_as boot room (refused fault) = answer.Refused fault.refusal
-answered_as boot room (accepted rs ts) = cond (ltb (room / 4) (length ts)) answer.ShortList (answer.Done boot (length rs) (length ts))
+answered_as boot room (refused fault) = Err (error.Refused fault.refusal)
+answered_as boot room (accepted rs ts) = cond (ltb (room / 4) (length ts)) (Err error.ShortList) (Ok (record { boot = boot; reservations = length rs; entries = length ts }))
 
 -- the reader's answer of a blob, with a list
 unfoldable pub answer_of : List ℕ → List ℕ → ReadAnswer
