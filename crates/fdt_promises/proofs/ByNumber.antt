@@ -4,8 +4,7 @@ use mathlib.Core.List.{List, [], ◌∷◌}
 use mathlib.Core.Logic.{◌↔◌}
 use Prim.Native.Nat.{ℕ}
 use Rattle.fdt_format.specs.Description.{Description}
-use Rattle.fdt_record.specs.declared.Answer.TheVariants.{Done}
-use Rattle.fdt_record.specs.Answers.{number_of}
+use Rattle.fdt_record.specs.Answers.{Done, number_of}
 use Rattle.fdt_calls.specs.Calls.{Call, asks, Desk, Request, new_with_mem_reserv, to_open, to_finish, finish, answer, after}
 use Rattle.fdt_calls.specs.Called.{shown_part}
 use Rattle.fdt_calls.specs.Made.{Made}

@@ -43,9 +43,10 @@ use Rattle.fdt_walk.proofs.Walked.{reader_skip}
 use Rattle.fdt_reader.specs.declared.ReadAnswer.{ReadAnswer}
 use Rattle.fdt_reader.specs.Numbers.{Tells}
 use Rattle.fdt_reader.specs.Reader.{Read}
-use Rattle.fdt_record.specs.declared.Answer.{Answer}
-use Rattle.fdt_record.specs.declared.Answer.TheVariants.{Done, Misfit, DuplicateProperty}
-use Rattle.fdt_record.specs.Answers.{accepts, number_of}
+use Rattle.std.specs.Prelude.{Err}
+use Rattle.fdt_record.specs.declared.Error.{Error}
+use Rattle.fdt_record.specs.declared.Error.TheVariants.{Misfit, DuplicateProperty}
+use Rattle.fdt_record.specs.Answers.{Answer, Done, number_of, accepts}
 use Rattle.fdt_record.specs.Rows.{first}
 use Rattle.fdt_record.proofs.Rows.{NoneHolds, Given}
 use Rattle.fdt_opening.specs.Opening.{count}
@@ -94,7 +95,7 @@ pub accepted_exactly : (c : Call) (s : Desk) → (answer (asks c) s ≡ Done) �
 accepted_exactly c s = (answers_exactly (asks c) s).accepted
 
 -- It gets a refusal exactly when a row with that refusal holds and no earlier row does.
-pub refused_exactly : (c : Call) (s : Desk) (a : Answer) → accepts a ≡ false → (answer (asks c) s ≡ a) ↔ Given (rows (asks c) s) a
+pub refused_exactly : (c : Call) (s : Desk) (error : Error) → (answer (asks c) s ≡ Err error) ↔ Given (rows (asks c) s) error
 refused_exactly c s = (answers_exactly (asks c) s).refused
 
 -- 3 and 4 are never given.
@@ -133,7 +134,7 @@ never_misfit = run_fits
 
 -- So a call is refused 17 exactly when its own arguments do not fit together: an odd count of reservation numbers, or string-list
 -- lengths that do not sum to the bytes given.
-pub misfit_of_arguments : (r : Run) → (desk r).writer.finished ≡ false → (c : Call) → (answer (asks c) (desk r) ≡ Misfit) ↔ Misgiven c
+pub misfit_of_arguments : (r : Run) → (desk r).writer.finished ≡ false → (c : Call) → (answer (asks c) (desk r) ≡ Err Misfit) ↔ Misgiven c
 misfit_of_arguments = run_given
 
 -- No name is in the strings twice.
@@ -211,17 +212,17 @@ row_20 = run_repeated
 
 -- So a property is refused 20 exactly when no test before 20 refuses it and the open node already has a property of its name.
 pub refused_20 : (r : Run) → (desk r).writer.finished ≡ false → (name : List ℕ) (v : Value)
-    → (answer (to_have name v) (desk r) ≡ DuplicateProperty) ↔ (NoneHolds (rows_before20 name v (desk r)) × Memᴰ name (open_names (events_in r)))
+    → (answer (to_have name v) (desk r) ≡ Err DuplicateProperty) ↔ (NoneHolds (rows_before20 name v (desk r)) × Memᴰ name (open_names (events_in r)))
 refused_20 = run_refused
 
 -- The same of a phandle that passed its own tests.
 pub phandle-refused_20 : (r : Run) → (desk r).writer.finished ≡ false → (value : ℕ)
-    → (answer (to_mark value) (desk r) ≡ DuplicateProperty)
+    → (answer (to_mark value) (desk r) ≡ Err DuplicateProperty)
     ↔ ((mark_answer value (desk r) ≡ Done) × NoneHolds (rows_before20 phandle_name (phandle_value value) (marked (desk r) value)) × Memᴰ phandle_name (open_names (events_in r)))
 phandle-refused_20 = run_marked
 
 -- Its value is then recorded, over any record and buffers.
-pub recorded_at_20 : (s : Desk) (value : ℕ) → answer (asks (property_phandle value)) s ≡ DuplicateProperty → after (asks (property_phandle value)) s ≡ marked s value
+pub recorded_at_20 : (s : Desk) (value : ℕ) → answer (asks (property_phandle value)) s ≡ Err DuplicateProperty → after (asks (property_phandle value)) s ≡ marked s value
 unfolding asks
 recorded_at_20 s value = past-20 value s
 

@@ -15,7 +15,9 @@ use Rattle.fdt_header.specs.Header.{structure_start}
 use Rattle.fdt_format.specs.Reading.{reading}
 use Rattle.fdt_format.proofs.ReadBack.{length_from, read-blob}
 use Rattle.fdt_format.proofs.Structure.{structure-size}
-use Rattle.fdt_record.specs.declared.Answer.TheVariants.{Done, Misfit, DuplicateProperty}
+use Rattle.fdt_record.specs.Answers.{Done}
+use Rattle.std.specs.Prelude.{Err}
+use Rattle.fdt_record.specs.declared.Error.TheVariants.{Misfit, DuplicateProperty}
 use Rattle.fdt_record.proofs.Rows.{NoneHolds}
 use Rattle.fdt_opening.specs.Opening.{count}
 use Rattle.fdt_opening.proofs.Opening.{OpeningFits, opened-fits}
@@ -60,17 +62,17 @@ module _ (r : Run) where
   pub run_fits : (desk r).writer.finished ≡ false → FitDesk (desk r)
   run_fits u = open_fits (run_open u)
 
-  pub run_given : (desk r).writer.finished ≡ false → (c : Call) → (answer (asks c) (desk r) ≡ Misfit) ↔ Misgiven c
+  pub run_given : (desk r).writer.finished ≡ false → (c : Call) → (answer (asks c) (desk r) ≡ Err Misfit) ↔ Misgiven c
   run_given u = only-given (run_open u)
 
   -- while it is open, row 20 and refusal 20 are about the open node
   pub run_repeated : (desk r).writer.finished ≡ false → ended_of (events_in r) ≡ false → (name : List ℕ) → (is_repeated (desk r).writer (desk r).blob (place_of (desk r).writer (desk r).strings name) ≡ true) ↔ Memᴰ name (open_names (events_in r))
   run_repeated u e = let o = run_open u in repeated_exactly o.holds o.plain (o.holds.ended ∙ e)
 
-  pub run_refused : (desk r).writer.finished ≡ false → (name : List ℕ) (v : Value) → (answer (to_have name v) (desk r) ≡ DuplicateProperty) ↔ (NoneHolds (rows_before20 name v (desk r)) × Memᴰ name (open_names (events_in r)))
+  pub run_refused : (desk r).writer.finished ≡ false → (name : List ℕ) (v : Value) → (answer (to_have name v) (desk r) ≡ Err DuplicateProperty) ↔ (NoneHolds (rows_before20 name v (desk r)) × Memᴰ name (open_names (events_in r)))
   run_refused u = open_refused (run_open u)
 
-  pub run_marked : (desk r).writer.finished ≡ false → (value : ℕ) → (answer (to_mark value) (desk r) ≡ DuplicateProperty) ↔ ((mark_answer value (desk r) ≡ Done) × NoneHolds (rows_before20 phandle_name (phandle_value value) (marked (desk r) value)) × Memᴰ phandle_name (open_names (events_in r)))
+  pub run_marked : (desk r).writer.finished ≡ false → (value : ℕ) → (answer (to_mark value) (desk r) ≡ Err DuplicateProperty) ↔ ((mark_answer value (desk r) ≡ Done) × NoneHolds (rows_before20 phandle_name (phandle_value value) (marked (desk r) value)) × Memᴰ phandle_name (open_names (events_in r)))
   run_marked u = open_marked (run_open u)
 
   -- the numbers of its opening are pairs, each of them valid

@@ -8,7 +8,7 @@ use Rattle.fdt_format.specs.Tokens.{begin_bytes, end_bytes}
 use Rattle.fdt_values.specs.Value.{Value, value_bytes}
 use Rattle.fdt_format.specs.Description.{◌≔◌}
 use Rattle.fdt_format.specs.Events.{Event, begins, has, ends}
-use Rattle.fdt_record.specs.declared.Answer.TheVariants.{Done}
+use Rattle.fdt_record.specs.Answers.{Done}
 use Rattle.fdt_record.specs.Fields.{with_used_blob, with_used_strings, with_depth, with_start, with_boot, with_ended}
 use Rattle.fdt_record.proofs.Answers.{upon-done}
 use Rattle.fdt_opening.specs.Opening.{opening, opening_blob, opening_bytes, opened_record}

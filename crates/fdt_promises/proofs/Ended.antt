@@ -26,7 +26,7 @@ use Rattle.fdt_header.proofs.HeaderBytes.{length-header}
 use Rattle.fdt_format.proofs.Nodes.{Accepted, described_by}
 use Rattle.fdt_format.proofs.Structure.{structure-size}
 use Rattle.fdt_format.proofs.Tokens.{length_final}
-use Rattle.fdt_record.specs.declared.Answer.TheVariants.{Done}
+use Rattle.fdt_record.specs.Answers.{Done}
 use Rattle.fdt_record.specs.Limits.{blob_ceiling, usable}
 use Rattle.fdt_bytes.proofs.Tests.{neither}
 use Rattle.fdt_opening.specs.Opening.{count, some_invalid}

@@ -16,10 +16,10 @@ use Rattle.fdt_values.specs.Value.{Value, raw, cells, texts, sum, misfit_value}
 use Rattle.fdt_format.specs.Blob.{names_of, events_size}
 use Rattle.fdt_format.specs.Events.{Event}
 use Rattle.fdt_format.proofs.TokensRead.{size_multiple}
-use Rattle.fdt_record.specs.declared.Answer.{Answer}
-use Rattle.fdt_record.specs.declared.Answer.TheVariants.{Misfit}
+use Rattle.std.specs.Prelude.{Err}
+use Rattle.fdt_record.specs.declared.Error.TheVariants.{Misfit}
 use Rattle.fdt_record.specs.declared.Outcome.{Outcome}
-use Rattle.fdt_record.specs.Answers.{number_of, accepts}
+use Rattle.fdt_record.specs.Answers.{Answer, number_of, accepts}
 use Rattle.fdt_record.specs.Limits.{most_reservations}
 use Rattle.fdt_record.specs.Misfits.{misfit_record, misfit_room, off_structure, misfit_blob, misfit_strings, misfit_phandles}
 use Rattle.fdt_record.specs.Rows.{Row, ◌⇒◌, first}
@@ -89,10 +89,10 @@ module _ {numbers : List ℕ} {es : List Event} {boot : ℕ} {marks : List ℕ} 
 abbrev Other : Answer → Type 0
 Other a = eqb (number_of a) 17 ≡ false
 
--- each row fails, or its answer is not 17
+-- each row fails, or its refusal is not 17
 unfoldable Others : List Row → Type 0
 Others [] = Unit {0}
-Others ((b ⇒ a) ∷ rows) = ((b ≡ false) ⊎ Other a) × Others rows
+Others ((b ⇒ a) ∷ rows) = ((b ≡ false) ⊎ Other (Err a)) × Others rows
 
 other : (rows : List Row) → Others rows → Other (first rows)
 unfolding Others first
@@ -102,7 +102,7 @@ other ((true ⇒ a) ∷ rows) (inr p, r) = p
 other ((false ⇒ a) ∷ rows) (p, r) = other rows r
 
 -- an answer that is not 17 is not Misfit
-never : {A : Type 0} {a : Answer} → Other a → a ≡ Misfit → A
+never : {A : Type 0} {a : Answer} → Other a → a ≡ Err Misfit → A
 never n e = absurd (true≢false (sym (ap (λ (b : Answer). eqb (number_of b) 17) e) ∙ n))
 
 module _ {numbers : List ℕ} {es : List Event} {boot : ℕ} {marks : List ℕ} {s : Desk} (o : Open numbers es boot marks s) where
@@ -150,7 +150,7 @@ other-phandle {s = s} o value = go (accepts (mark_answer value s)) refl
     go true t =
         let d = accepts-done (mark_answer value s) t in
         subst Other (sym (marked-answer s value d)) (other-property (marked_open o value d) phandle_name (phandle_value value) refl)
-    go false t = subst Other (sym (ap (λ (r : Outcome). r.answer) (upon-refused _ _ _ t))) (other_mark o value)
+    go false t = subst Other (sym (ap (λ (r : Outcome (Unit {0})). r.answer) (upon-refused _ _ _ t))) (other_mark o value)
 
 -- ---- 17 exactly for a call's own arguments
 
@@ -160,7 +160,7 @@ unfolding misfit_value sum
 one-sum string = simp (eq-eqb _ _ (let z : length string + 0 ≡ length string = omega arith in z))
 
 module _ {numbers : List ℕ} {es : List Event} {boot : ℕ} {marks : List ℕ} {s : Desk} (o : Open numbers es boot marks s) where
-  given : (c : Call) → answer (asks c) s ≡ Misfit → Misgiven c
+  given : (c : Call) → answer (asks c) s ≡ Err Misfit → Misgiven c
   unfolding asks answer misfit_value
   given new e = never (other-opening o [] refl) e
   given (new_with_mem_reserv ns) e = go (length ns % 2) refl
@@ -183,12 +183,12 @@ module _ {numbers : List ℕ} {es : List Event} {boot : ℕ} {marks : List ℕ} 
   given finish e = never (other-finish o) e
   given show e = never refl e
 
-  refused : (c : Call) → Misgiven c → answer (asks c) s ≡ Misfit
+  refused : (c : Call) → Misgiven c → answer (asks c) s ≡ Err Misfit
   unfolding asks answer opening_answer opening_rows property_answer property_rows state_rows strings_rows blob_rows alone_rows misfit_value
   refused c (odd_count ns q) = hit _ _ (simp (ne_eqb (length ns % 2) 0 (λ z. omega (arith, q, z))))
   refused c (other_sum name bytes lengths q) =
       let f = open_fits o in
       skip _ _ o.holds.unfinished ∙ skip _ _ f.figures ∙ skip _ _ f.blob ∙ skip _ _ f.strings ∙ hit _ _ (simp (ne_eqb (sum lengths) (length bytes) q))
 
-  pub only-given : (c : Call) → (answer (asks c) s ≡ Misfit) ↔ Misgiven c
+  pub only-given : (c : Call) → (answer (asks c) s ≡ Err Misfit) ↔ Misgiven c
   only-given c = (given c, refused c)

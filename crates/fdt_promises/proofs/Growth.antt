@@ -13,12 +13,12 @@ use Rattle.fdt_bytes.specs.Splice.{over, splice}
 use Rattle.fdt_bytes.proofs.Splice.{length-splice, set-splice}
 use Rattle.fdt_names.specs.Grammar.{all}
 use Rattle.fdt_names.specs.Names.{has_zero}
-use Rattle.fdt_strings.specs.declared.Found.{Found}
-use Rattle.fdt_strings.specs.declared.Found.TheVariants.{At, Nothing}
+use Rattle.std.specs.Prelude.{Option, Some, None, Result, Ok, Err}
 use Rattle.fdt_strings.specs.declared.Interned.{Interned}
+use Rattle.fdt_strings.specs.declared.StringRoom.{StringRoom}
 use Rattle.fdt_strings.specs.declared.Interned.TheVariants as place
 use Rattle.fdt_strings.specs.Entries.{found_values, entry, entries, first_from, find_string, joined, NoZero, no_byte, next_byte}
-use Rattle.fdt_strings.specs.Interned.{interned, number_of, values_of}
+use Rattle.fdt_strings.specs.Interned.{interned}
 use Rattle.fdt_strings.proofs.Entries.{PlainNames as PlainNames, entries-joined, joined-append, first-after, eq_same}
 use Rattle.fdt_strings.proofs.Places.{known_found, new-placed}
 use Rattle.fdt_format.specs.Events.{Event, begins, has, ends}
@@ -74,21 +74,21 @@ no_zero (b ∷ s) h = go (eqb b 0) refl (λ t. no_zero s t) h
     go false e more h = let n : b ≡ 0 → ⊥ = eqb-false b 0 e in let p : 0 < b = omega (arith, n) in next_byte p (more h)
 
 -- the strings of names, with a name at its place
-pub record NameStored (room used : ℕ) (strings name : List ℕ) (names : List (List ℕ)) (p : Interned) : Type 0 where
+pub record NameStored (room used : ℕ) (strings name : List ℕ) (names : List (List ℕ)) (p : Result Interned StringRoom) : Type 0 where
   pub offset : place_offset p ≡ offset_of (with_name names name) name
   pub filled : Filled strings_ceiling (joined (with_name names name)) room (used + added p name) (stored p name strings)
 
 module _ {room used : ℕ} {strings : List ℕ} (name : List ℕ) {names : List (List ℕ)} (plain : PlainNames names) (f : Filled strings_ceiling (joined names) room used strings) where
   -- the name is found among the names exactly where it is found in the strings
-  pub among : (g : Found) → find_string (take used strings) name ≡ g → first_from 0 names name ≡ g
+  pub among : (g : Option ℕ) → find_string (take used strings) name ≡ g → first_from 0 names name ≡ g
   unfolding find_string
   among g e = ap (λ (l : List (List ℕ)). first_from 0 l name) (sym (entries-joined plain) ∙ ap entries (sym f.part)) ∙ e
 
   pub named : is_full (interned (take used strings) room name) ≡ false → NameStored room used strings name names (interned (take used strings) room name)
-  unfolding is_full number_of place_offset values_of offset_of found_at found_values with_name or_at_end added stored first_from joined
+  unfolding is_full place_offset offset_of found_at found_values with_name or_at_end added stored first_from joined
   named h = go (interned (take used strings) room name) refl h
     where
-      known : (i : ℕ) → first_from 0 names name ≡ At i → NameStored room used strings name names (place.Known i)
+      known : (i : ℕ) → first_from 0 names name ≡ Some i → NameStored room used strings name names (Ok (place.Known i))
       known i g =
           let w : with_name names name ≡ names = simp g in
           let z : used + 0 ≡ used = omega arith in
@@ -98,13 +98,13 @@ module _ {room used : ℕ} {strings : List ℕ} (name : List ℕ) {names : List 
                 (subst (λ (l : List (List ℕ)). Filled strings_ceiling (joined l) room used strings) (sym w) f);
           }
 
-      new : (i : ℕ) → first_from 0 names name ≡ Nothing → i ≡ used → used + length (entry name) ≤ room → NameStored room used strings name names (place.New i)
+      new : (i : ℕ) → first_from 0 names name ≡ None → i ≡ used → used + length (entry name) ≤ room → NameStored room used strings name names (Ok (place.New i))
       new i g e fits =
           let w : with_name names name ≡ names ++ (name ∷ []) = simp g in
           let j : joined (names ++ (name ∷ [])) ≡ joined names ++ entry name =
           joined-append names (name ∷ []) ∙ ap (λ (l : List ℕ). joined names ++ l) (append-nil (entry name))
           in
-          let o : first_from 0 (names ++ (name ∷ [])) name ≡ At (0 + length (joined names)) =
+          let o : first_from 0 (names ++ (name ∷ [])) name ≡ Some (0 + length (joined names)) =
           first-after name 0 names (name ∷ []) g ∙ simp (eq_same name name refl)
           in
           record {
@@ -113,13 +113,13 @@ module _ {room used : ℕ} {strings : List ℕ} (name : List ℕ) {names : List 
                 (subst (λ (l : List ℕ). Filled strings_ceiling l room (used + length (entry name)) (splice used (entry name) strings)) (sym (ap joined w ∙ j)) (more-filled f (entry name) fits));
           }
 
-      go : (p : Interned) → interned (take used strings) room name ≡ p → is_full p ≡ false → NameStored room used strings name names p
-      go (place.Known i) e h = known i (among (At i) (known_found (take used strings) name room i e))
-      go (place.New i) e h =
+      go : (p : Result Interned StringRoom) → interned (take used strings) room name ≡ p → is_full p ≡ false → NameStored room used strings name names p
+      go (Ok (place.Known i)) e h = known i (among (Some i) (known_found (take used strings) name room i e))
+      go (Ok (place.New i)) e h =
           let s = new-placed (take used strings) name room i e in
           let n : length (take used strings) ≡ used = ap length f.part ∙ sym f.counted in
-          new i (among Nothing s.absent) (sym s.place ∙ n) (omega (arith, s.fits, s.place, n))
-      go place.StringRoom e h = absurd (true≢false h)
+          new i (among None s.absent) (sym s.place ∙ n) (omega (arith, s.fits, s.place, n))
+      go (Err full) e h = absurd (true≢false h)
 
 -- ---- an event after the events
 

@@ -19,8 +19,7 @@ use Rattle.fdt_format.proofs.Nodes.{Accepted}
 use Rattle.fdt_format.proofs.Strings.{names-snoc, names-plain}
 use Rattle.fdt_format.proofs.Structure.{structure-snoc, event_size_lem}
 use Rattle.fdt_walk.proofs.Capped.{Shallow}
-use Rattle.fdt_record.specs.declared.Answer.TheVariants.{Done}
-use Rattle.fdt_record.specs.Answers.{accepts, upon}
+use Rattle.fdt_record.specs.Answers.{Done, accepts, upon}
 use Rattle.fdt_record.specs.Limits.{blob_ceiling, strings_ceiling, phandles_ceiling, most_reservations, most_depth}
 use Rattle.fdt_record.specs.Fields.{with_used_phandles, with_boot}
 use Rattle.fdt_record.proofs.Answers.{accepts-done, upon-done, upon-refused}

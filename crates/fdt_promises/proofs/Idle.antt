@@ -10,8 +10,7 @@ use Rattle.fdt_values.specs.Value.{Value, value_bytes}
 use Rattle.fdt_values.proofs.Values.{texts-one}
 use Rattle.fdt_format.specs.Description.{◌≔◌, Reservation}
 use Rattle.fdt_format.specs.Events.{Event, has, nodes_of}
-use Rattle.fdt_record.specs.declared.Answer.{Answer}
-use Rattle.fdt_record.specs.Answers.{accepts, upon}
+use Rattle.fdt_record.specs.Answers.{Answer, accepts, upon}
 use Rattle.fdt_record.proofs.Answers.{accepts-done, upon-done, upon-refused}
 use Rattle.fdt_phandles.specs.Phandle.{phandle_name, phandle_value}
 use Rattle.fdt_calls.specs.Calls.{Call, property, property_string, property_u32, property_array_u32, property_array_u64, property_phandle, asks, Request, to_open, to_have, Effect, opens, sets_boot, adds, records, no_effect, effect, Desk, answer, after, mark_answer, marked, left_by}

@@ -9,7 +9,9 @@ use lib.ListN.{length, take, set, length-set}
 use lib.Seq.{length-take-le, get_or-set_other}
 use Rattle.fdt_bytes.specs.Splice.{splice}
 use Rattle.fdt_bytes.proofs.Splice.{length-splice, splice-before, splice_behind}
+use Rattle.std.specs.Prelude.{Result, Ok, Err}
 use Rattle.fdt_strings.specs.declared.Interned.{Interned}
+use Rattle.fdt_strings.specs.declared.StringRoom.{StringRoom}
 use Rattle.fdt_strings.specs.declared.Interned.TheVariants as place
 use Rattle.fdt_strings.specs.Entries.{entry}
 use Rattle.fdt_strings.specs.Interned.{interned}
@@ -19,9 +21,8 @@ use Rattle.fdt_header.proofs.HeaderBytes.{length-header}
 use Rattle.fdt_format.specs.Tokens.{begin_bytes, end_bytes, final_bytes}
 use Rattle.fdt_format.proofs.Tokens.{length-end, length_final}
 use Rattle.fdt_values.specs.Value.{Value}
-use Rattle.fdt_record.specs.declared.Answer.TheVariants.{Done}
 use Rattle.fdt_record.specs.declared.Record.{Record}
-use Rattle.fdt_record.specs.Answers.{accepts}
+use Rattle.fdt_record.specs.Answers.{Done, accepts}
 use Rattle.fdt_record.specs.Limits.{blob_ceiling, strings_ceiling, phandles_ceiling, usable}
 use Rattle.fdt_record.proofs.Answers.{accepts-done}
 use Rattle.fdt_record.proofs.Fits.{FitStrings}
@@ -79,15 +80,15 @@ name_stored : (w : Record) (strings name : List ℕ) → FitStrings w strings �
 unfolding place_of added stored Outside Within
 name_stored w strings name f = go (interned (take w.strings_used strings) w.strings_room name) refl
   where
-    go : (p : Interned) → interned (take w.strings_used strings) w.strings_room name ≡ p → OnlyIn strings_ceiling ((w.strings_used for added p name) ∷ []) strings (stored p name strings)
-    go (place.Known offset) e = record { kept_length = refl; kept = λ i o. refl; within = (omega (arith, f.used, f.room), tt) }
-    go (place.New offset) e =
+    go : (p : Result Interned StringRoom) → interned (take w.strings_used strings) w.strings_room name ≡ p → OnlyIn strings_ceiling ((w.strings_used for added p name) ∷ []) strings (stored p name strings)
+    go (Ok (place.Known offset)) e = record { kept_length = refl; kept = λ i o. refl; within = (omega (arith, f.used, f.room), tt) }
+    go (Ok (place.New offset)) e =
         let s = new-placed (take w.strings_used strings) name w.strings_room offset e in
         let n = length-take-le w.strings_used strings (omega (arith, f.used, f.within)) in
         let at : offset ≡ w.strings_used = sym s.place ∙ n in
         subst (λ (k : ℕ). OnlyIn strings_ceiling ((k for length (entry name)) ∷ []) strings (splice offset (entry name) strings)) at
         (spliced strings_ceiling offset (length (entry name)) (entry name) strings refl (omega (arith, s.fits, f.room)))
-    go place.StringRoom e = record { kept_length = refl; kept = λ i o. refl; within = (omega (arith, f.used, f.room), tt) }
+    go (Err full) e = record { kept_length = refl; kept = λ i o. refl; within = (omega (arith, f.used, f.room), tt) }
 
 -- ---- each call
 

@@ -10,28 +10,28 @@ use lib.ListN.{length, take}
 use lib.Seq.{length-take-le}
 use Rattle.fdt_bytes.specs.Splice.{splice}
 use Rattle.fdt_bytes.proofs.Splice.{length-splice}
+use Rattle.std.specs.Prelude.{Result, Ok, Err}
 use Rattle.fdt_strings.specs.declared.Interned.{Interned}
+use Rattle.fdt_strings.specs.declared.StringRoom.{StringRoom}
 use Rattle.fdt_strings.specs.declared.Interned.TheVariants as place
 use Rattle.fdt_strings.specs.Entries.{entry}
 use Rattle.fdt_strings.specs.Interned.{interned}
 use Rattle.fdt_strings.proofs.Places.{new-placed}
 use Rattle.fdt_values.specs.Value.{Value, value_bytes, misfit_value, zero_value}
 use Rattle.fdt_names.specs.Names.{one_of}
-use Rattle.fdt_record.specs.declared.Answer.{Answer}
-use Rattle.fdt_record.specs.declared.Answer.TheVariants.{Misfit, DuplicatePhandle, PhandleRoom}
+use Rattle.fdt_record.specs.declared.Error.TheVariants.{Misfit, DuplicatePhandle, PhandleRoom}
 use Rattle.fdt_record.specs.declared.Outcome.{Outcome}
 use Rattle.fdt_record.specs.declared.Record.{Record}
-use Rattle.fdt_record.specs.Answers.{accepts, upon}
+use Rattle.fdt_record.specs.Answers.{Answer, accepts, upon}
 use Rattle.fdt_record.specs.Limits.{blob_ceiling, strings_ceiling, phandles_ceiling, usable}
 use Rattle.fdt_record.specs.Misfits.{misfit_room, misfit_phandles}
 use Rattle.fdt_record.specs.Rows.{Row, ◌⇒◌, first}
 use Rattle.fdt_record.specs.Tests.{alone_rows, blob_rows, strings_rows}
 use Rattle.fdt_record.proofs.Answers.{accepts-done, upon-same}
-use Rattle.fdt_record.proofs.FirstTests.{strings_refusals}
 use Rattle.fdt_record.proofs.Fits.{usable-within, FitBlob, FitStrings, fit_phandles}
-use Rattle.fdt_record.proofs.Rows.{Refusals, ByName, by_name, exactly, refusals_more, append-same}
+use Rattle.fdt_record.proofs.Rows.{ByName, by_name, exactly, append-same}
 use Rattle.fdt_properties.specs.Property.{place_of, is_known, place_offset, is_repeated, stored, written, state_rows, name_rows, place_rows, property_rows, property_answer, property_record, property, property_blob, property_strings}
-use Rattle.fdt_properties.proofs.Property.{first_refusals, PropertyFits, property-fits}
+use Rattle.fdt_properties.proofs.Property.{PropertyFits, property-fits}
 use Rattle.fdt_properties.proofs.Steps.{first_fits}
 use Rattle.fdt_header.specs.Header.{header_size, header_bytes}
 use Rattle.fdt_format.specs.Tokens.{begin_bytes, property_bytes, end_bytes, final_bytes}
@@ -40,7 +40,7 @@ use Rattle.fdt_format.proofs.LookBack.{look_same}
 use Rattle.fdt_format.proofs.Tokens.{length-end, length_final}
 use Rattle.fdt_opening.specs.Opening.{opening_rows, opening_answer, opened_record, opening_bytes, opening, opening_blob}
 use Rattle.fdt_opening.proofs.Opening.{opened-fits, length-opening_bytes}
-use Rattle.fdt_nodes.specs.declared.Begun.{Begun}
+use Rattle.fdt_nodes.specs.declared.FdtWriterNode.{FdtWriterNode}
 use Rattle.fdt_nodes.specs.Begin.{begin_rows, begin_answer, begin, begin_blob}
 use Rattle.fdt_nodes.specs.End.{end_rows, end_answer, end, end_blob}
 use Rattle.fdt_nodes.proofs.Begin.{begin-fits}
@@ -179,8 +179,8 @@ module _ (xs ys : List ℕ) (same : SameUsable blob_ceiling xs ys) where
       unfolding property_answer property_rows first_rows
       same-property =
           append-same (first_rows (length xs) ss) (first_rows (length ys) ts) (place_rows w xs ss name v) (place_rows w ys ts name v)
-          (first_refusals w (length xs) ss name (misfit_value v) (zero_value v)) (first_refusals w (length ys) ts name (misfit_value v) (zero_value v)) same-state
-          (λ e. let f = first_fits w xs ss name (record { misfit = misfit_value v; zero = zero_value v; len = 0 }) refl e in same_places f.blob_fits f.names)
+          same-state
+          (λ e. let f = first_fits w xs ss name (record { misfit = misfit_value v; zero = zero_value v; len = 0 }) (accepts-done _ e) in same_places f.blob_fits f.names)
 
       -- equal if the call is accepted, so equal
       accepted-same : {A : Type 0} (x x' y : A) → (accepts (property_answer w xs ss name v) ≡ true → x ≡ x') → upon (property_answer w xs ss name v) x y ≡ upon (property_answer w ys ts name v) x' y
@@ -190,13 +190,13 @@ module _ (xs ys : List ℕ) (same : SameUsable blob_ceiling xs ys) where
       fits e = property-fits w xs ss name v (accepts-done (property_answer w xs ss name v) e)
 
       -- a new name goes within the usable strings
-      within : FitStrings w ss → (p : Interned) → place_of w ss name ≡ p → SameUsable strings_ceiling (stored p name ss) (stored p name ts)
+      within : FitStrings w ss → (p : Result Interned StringRoom) → place_of w ss name ≡ p → SameUsable strings_ceiling (stored p name ss) (stored p name ts)
       unfolding stored place_of
-      within f (place.Known offset) e = alike
-      within f (place.New offset) e =
+      within f (Ok (place.Known offset)) e = alike
+      within f (Ok (place.New offset)) e =
           let s = new-placed (take w.strings_used ss) name w.strings_room offset e in
           same-splice strings_ceiling offset (entry name) ss ts alike (omega (arith, s.fits, f.room))
-      within f place.StringRoom e = alike
+      within f (Err full) e = alike
 
       usable-property :
           (property w xs ss name v ≡ property w ys ts name v)
@@ -210,12 +210,12 @@ module _ (xs ys : List ℕ) (same : SameUsable blob_ceiling xs ys) where
         same-upon blob_ceiling same-property xs ys _ _ same
             (λ e.
             let f = fits e in
-            subst (λ (p : Interned). SameUsable blob_ceiling (splice w.blob_used (property_bytes (place_offset (place_of w ss name)) (value_bytes v)) xs) (splice w.blob_used (property_bytes (place_offset p) (value_bytes v)) ys)) (same_place f.names)
+            subst (λ (p : Result Interned StringRoom). SameUsable blob_ceiling (splice w.blob_used (property_bytes (place_offset (place_of w ss name)) (value_bytes v)) xs) (splice w.blob_used (property_bytes (place_offset p) (value_bytes v)) ys)) (same_place f.names)
             (same-splice blob_ceiling w.blob_used (property_bytes (place_offset (place_of w ss name)) (value_bytes v)) xs ys same (omega (arith, f.blob_fits.room, f.room)))),
         same-upon strings_ceiling same-property ss ts _ _ alike
             (λ e.
             let f = fits e in
-            subst (λ (p : Interned). SameUsable strings_ceiling (stored (place_of w ss name) name ss) (stored p name ts)) (same_place f.names)
+            subst (λ (p : Result Interned StringRoom). SameUsable strings_ceiling (stored (place_of w ss name) name ss) (stored p name ts)) (same_place f.names)
             (within f.names (place_of w ss name) refl)),
       )
 
@@ -234,10 +234,6 @@ module _ (xs ys : List ℕ) (same : SameUsable blob_ceiling xs ys) where
       first_tests : (lent : ℕ) (strings table : List ℕ) → List Row
       first_tests lent strings table = strings_rows w lent strings ++ (misfit_phandles w (length table) ⇒ Misfit) ∷ []
 
-      refusals : (lent : ℕ) (strings table : List ℕ) → Refusals (first_tests lent strings table)
-      unfolding first_tests
-      refusals lent strings table = refusals_more (strings_rows w lent strings) (strings_refusals w lent strings) (misfit_phandles w (length table))
-
       same_first : first (first_tests (length xs) ss ps) ≡ first (first_tests (length ys) ts qs)
       unfolding first_tests strings_rows blob_rows
       same_first = simp (same_misfit_blob w xs ys same, same_misfit_strings w ss ts alike, same-phandles)
@@ -246,7 +242,7 @@ module _ (xs ys : List ℕ) (same : SameUsable blob_ceiling xs ys) where
       unfolding first_tests strings_rows blob_rows alone_rows ByName
       phandles_fit e =
           let rows = first_tests (length xs) ss ps in
-          by_name rows ((exactly rows (refusals (length xs) ss ps)).accepted.0 (accepts-done (first rows) e)) (λ unfinished figures blob stored misfit. misfit)
+          by_name rows ((exactly rows).accepted.0 (accepts-done (first rows) e)) (λ unfinished figures blob stored misfit. misfit)
 
       -- the tests of the table
       table_tests : List ℕ → List Row
@@ -261,7 +257,7 @@ module _ (xs ys : List ℕ) (same : SameUsable blob_ceiling xs ys) where
       unfolding record_answer record_rows first_tests table_tests strings_rows blob_rows alone_rows
       same_record =
           append-same (first_tests (length xs) ss ps) (first_tests (length ys) ts qs) (table_tests ps) (table_tests qs)
-          (refusals (length xs) ss ps) (refusals (length ys) ts qs) same_first (λ e. same_table (phandles_fit e))
+          same_first (λ e. same_table (phandles_fit e))
 
       usable-phandle :
           (phandle w xs ss ps value ≡ phandle w ys ts qs value)
@@ -294,23 +290,23 @@ module _ (w : Record) (xs ys ss ts ps qs : List ℕ) (b : SameUsable blob_ceilin
   unfolding answer after one other opening boot begin end property finish
   alike_after (to_open numbers) =
       let u = usable-opening xs ys b (length ss) (length ts) (length ps) (length qs) numbers (same_length strings_ceiling ss ts n) (same_length phandles_ceiling ps qs p) in
-      (ap (λ (o : Outcome). o.answer) u.0, record { writer = ap (λ (o : Outcome). o.after) u.0; blob = u.1; strings = n; phandles = p })
+      (ap (λ (o : Outcome (Unit {0})). o.answer) u.0, record { writer = ap (λ (o : Outcome (Unit {0})). o.after) u.0; blob = u.1; strings = n; phandles = p })
   alike_after (to_boot m) = (refl, record { writer = refl; blob = b; strings = n; phandles = p })
   alike_after (to_begin name) =
       let u = usable-begin xs ys b w name in
-      (ap (λ (o : Begun). o.answer) u.0, record { writer = ap (λ (o : Begun). o.after) u.0; blob = u.1; strings = n; phandles = p })
+      (same-begin xs ys b w name, record { writer = ap (λ (o : Outcome FdtWriterNode). o.after) u.0; blob = u.1; strings = n; phandles = p })
   alike_after (to_end handle) =
       let u = usable-end xs ys b w handle in
-      (ap (λ (o : Outcome). o.answer) u.0, record { writer = ap (λ (o : Outcome). o.after) u.0; blob = u.1; strings = n; phandles = p })
+      (ap (λ (o : Outcome (Unit {0})). o.answer) u.0, record { writer = ap (λ (o : Outcome (Unit {0})). o.after) u.0; blob = u.1; strings = n; phandles = p })
   alike_after (to_have name v) =
       let u = usable-property xs ys b ss ts n w name v in
-      (ap (λ (o : Outcome). o.answer) u.0, record { writer = ap (λ (o : Outcome). o.after) u.0; blob = u.1; strings = u.2; phandles = p })
+      (ap (λ (o : Outcome (Unit {0})). o.answer) u.0, record { writer = ap (λ (o : Outcome (Unit {0})). o.after) u.0; blob = u.1; strings = u.2; phandles = p })
   alike_after (to_mark value) =
       let u = usable-phandle xs ys b ss ts n ps qs p w value in
-      (ap (λ (o : Outcome). o.answer) u.0, record { writer = ap (λ (o : Outcome). o.after) u.0; blob = u.1; strings = u.2; phandles = u.3 })
+      (ap (λ (o : Outcome (Unit {0})). o.answer) u.0, record { writer = ap (λ (o : Outcome (Unit {0})). o.after) u.0; blob = u.1; strings = u.2; phandles = u.3 })
   alike_after to_finish =
       let u = usable-finish xs ys b ss ts n w in
-      (ap (λ (o : Outcome). o.answer) u.0, record { writer = ap (λ (o : Outcome). o.after) u.0; blob = u.1; strings = n; phandles = p })
+      (ap (λ (o : Outcome (Unit {0})). o.answer) u.0, record { writer = ap (λ (o : Outcome (Unit {0})). o.after) u.0; blob = u.1; strings = n; phandles = p })
   alike_after to_show = (refl, record { writer = refl; blob = b; strings = n; phandles = p })
 
 module _ (s t : Desk) (a : Alike s t) where

@@ -9,11 +9,10 @@ use native.Mathlib.Omega.{arith}
 use lib.Dec.{leb}
 use lib.ListN.{length, take, drop, length-append, take-append-drop}
 use Rattle.fdt_bytes.specs.Padding.{zeros}
-use Rattle.fdt_strings.specs.declared.Found.{Found}
-use Rattle.fdt_strings.specs.declared.Found.TheVariants.{At, Nothing}
+use Rattle.std.specs.Prelude.{Option, Some, None, Ok, Err}
 use Rattle.fdt_strings.specs.declared.Interned.TheVariants as place
 use Rattle.fdt_strings.specs.Entries.{found_values, entry, find_string}
-use Rattle.fdt_strings.specs.Interned.{new_name, or_else, interned, values_of}
+use Rattle.fdt_strings.specs.Interned.{string_room, new_name, or_else, interned}
 use Rattle.fdt_strings.proofs.Entries.{PlainNames, no_entry}
 use Rattle.fdt_format.specs.Blob.{names_from, names_of, found_at, offset_of, structure_bytes, events_size, AllPlain}
 use Rattle.fdt_format.specs.Description.{Property, ◌≔◌}
@@ -47,7 +46,7 @@ new_unknown : (used : List ℕ) (room : ℕ) (name : List ℕ) → is_known (new
 unfolding new_name is_known
 new_unknown used room name = go (leb (length used + length (entry name)) room)
   where
-    go : (b : Bool) → is_known (cond b (place.New (length used)) place.StringRoom) ≡ false
+    go : (b : Bool) → is_known (cond b (Ok (place.New (length used))) (Err string_room)) ≡ false
     go true = refl
     go false = refl
 
@@ -96,17 +95,17 @@ module _ {numbers : List ℕ} {es : List Event} {boot : ℕ} {marks : List ℕ} 
 
   -- row 20 holds exactly when the open node has a property of the name
   pub repeated_exactly : (name : List ℕ) → (is_repeated s.writer s.blob (place_of s.writer s.strings name) ≡ true) ↔ Memᴰ name (open_names es)
-  unfolding own is_repeated is_known place_of place_offset values_of interned or_else new_name offset_of found_at found_values Has
+  unfolding own is_repeated is_known place_of place_offset interned or_else new_name offset_of found_at found_values Has
   repeated_exactly name = go (find_string (take s.writer.strings_used s.strings) name) refl
     where
-      repeated : Found → Bool
+      repeated : Option ℕ → Bool
       repeated f = let p = or_else f (new_name (take s.writer.strings_used s.strings) s.writer.strings_room name) in is_repeated s.writer s.blob p
 
-      go : (f : Found) → find_string (take s.writer.strings_used s.strings) name ≡ f → (repeated f ≡ true) ↔ Memᴰ name (open_names es)
-      go (At i) e =
-          let k = among name names_are_plain h.strings (At i) e in
+      go : (f : Option ℕ) → find_string (take s.writer.strings_used s.strings) name ≡ f → (repeated f ≡ true) ↔ Memᴰ name (open_names es)
+      go (Some i) e =
+          let k = among name names_are_plain h.strings (Some i) e in
           subst (λ (n : ℕ). (look_back s.blob s.writer.blob_used n s.writer.node_start ≡ true) ↔ Memᴰ name (open_names es)) (ap found_at k) (looked name (i, k))
-      go Nothing e = (
+      go None e = (
         λ t. absurd (true≢false (sym t ∙ rw (new_unknown (take s.writer.strings_used s.strings) s.writer.strings_room name))),
-        λ m. let k = mem_has (names_of es) name own own-has m in let z = k.1 in let q = among name names_are_plain h.strings Nothing e in let n : ◌≡◌ {A = ℕ} 0 1 = cc in absurd (omega arith),
+        λ m. let k = mem_has (names_of es) name own own-has m in let z = k.1 in let q = among name names_are_plain h.strings None e in let n : ◌≡◌ {A = ℕ} 0 1 = cc in absurd (omega arith),
       )

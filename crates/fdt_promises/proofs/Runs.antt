@@ -11,8 +11,7 @@ use Rattle.fdt_strings.specs.Entries.{joined}
 use Rattle.fdt_format.specs.Blob.{names_from, names_of, structure_bytes, events_size, AllPlain}
 use Rattle.fdt_format.specs.Events.{Event}
 use Rattle.fdt_header.specs.Header.{header_size, structure_start, reservation_bytes}
-use Rattle.fdt_record.specs.declared.Answer.TheVariants.{Done}
-use Rattle.fdt_record.specs.Answers.{accepts, upon}
+use Rattle.fdt_record.specs.Answers.{Done, accepts, upon}
 use Rattle.fdt_record.specs.Limits.{blob_ceiling, strings_ceiling, phandles_ceiling}
 use Rattle.fdt_record.specs.Rows.{first}
 use Rattle.fdt_record.specs.Tests.{alone_rows, blob_rows, strings_rows}

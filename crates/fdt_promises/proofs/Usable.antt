@@ -11,9 +11,8 @@ use lib.ListN.{length, take, drop, get_or, set, length-drop, length-set}
 use lib.Seq.{length-take-le, take-take, take-append-add, get_or-take, take-set-lt}
 use Rattle.fdt_bytes.proofs.Splice.{length-splice, drop-take}
 use Rattle.fdt_bytes.specs.Splice.{over, splice}
-use Rattle.fdt_record.specs.declared.Answer.{Answer}
 use Rattle.fdt_record.specs.declared.Record.{Record}
-use Rattle.fdt_record.specs.Answers.{accepts, upon}
+use Rattle.fdt_record.specs.Answers.{Answer, accepts, upon}
 use Rattle.fdt_record.specs.Limits.{blob_ceiling, strings_ceiling, usable}
 use Rattle.fdt_record.specs.Misfits.{misfit_room, misfit_blob, misfit_strings}
 use Rattle.fdt_promises.specs.Effects.{SameUsable}

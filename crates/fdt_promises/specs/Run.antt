@@ -10,8 +10,7 @@ use Rattle.fdt_format.specs.Description.{◌≔◌, Nodes, Reservation, reservat
 use Rattle.fdt_format.specs.Distinct.{DistinctNames}
 use Rattle.fdt_format.specs.Events.{Event, begins, has, ends, nodes_of}
 use Rattle.fdt_header.specs.Header.{header_size, structure_start, reservation_bytes}
-use Rattle.fdt_record.specs.declared.Answer.TheVariants.{Done}
-use Rattle.fdt_record.specs.Answers.{accepts, upon}
+use Rattle.fdt_record.specs.Answers.{Done, accepts, upon}
 use Rattle.fdt_record.specs.Limits.{blob_ceiling, strings_ceiling, phandles_ceiling, usable}
 use Rattle.fdt_record.specs.Misfits.{misfit_record, misfit_blob, misfit_strings, misfit_phandles}
 use Rattle.fdt_opening.specs.Opening.{count}
