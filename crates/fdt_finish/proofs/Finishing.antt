@@ -1,15 +1,18 @@
 -- Laws of a finish: the lengths of what it writes, exactly when it is accepted or refused, and what an accepted one may rely on.
-use mathlib.Core.Path.{◌≡◌, refl, ap, ◌∙◌}
+use mathlib.Core.Path.{◌≡◌, refl, sym, ap, subst, ◌∙◌}
 use mathlib.Core.Bool.{Bool, true, false}
 use mathlib.Core.List.{List}
-use Prim.Native.Nat.{ℕ, ◌+◌, ◌≤◌}
+use Prim.Native.Nat.{ℕ, ◌+◌, ◌*◌, ◌≤◌, ◌<◌}
+use native.Mathlib.Nat.{zero-add}
 use native.Mathlib.Omega.{arith}
 use borrow.Author.Tests.{eqb-true, not-false}
 use lib.Dec.{eqb}
-use lib.ListN.{length, take, length-take}
+use lib.ListN.{length, take, get_or, length-take}
+use Rattle.std.proofs.lemmas.List.{get_or_default}
 use Rattle.fdt_bytes.specs.BigEndian.{big_endian, cell_bytes}
 use Rattle.fdt_bytes.specs.Splice.{over, splice}
 use Rattle.fdt_bytes.proofs.BigEndian.{length-big_endian}
+use Rattle.fdt_bytes.proofs.Cells.{Written, written-more}
 use Rattle.fdt_bytes.proofs.Splice.{length-splice, lent, splice-splice}
 use Rattle.fdt_header.specs.Header.{structure_start, header_words, header_bytes}
 use Rattle.fdt_format.specs.Tokens.{final_token, final_bytes}
@@ -29,6 +32,14 @@ pub put_final : (strings rest r₁ r₂ : List ℕ) → 4 ≤ length rest → r�
 unfolding splice final_bytes
 put_final strings rest r₁ r₂ h e₁ e₂ =
     e₂ ∙ ap (splice 4 strings) e₁ ∙ splice-splice 0 4 (big_endian 4 final_token) strings rest (omega (arith, length-big_endian 4 final_token)) h
+
+-- the word that is rewritten next
+pub word_more : {words before now after : List ℕ} {i : ℕ} → 4 * length words ≤ length before → Written (big_endian 4) 4 0 words before now i → i < length words → after ≡ splice (4 * i) (big_endian 4 (get_or words i 0)) now → Written (big_endian 4) 4 0 words before after (i + 1)
+word_more {words} {before} {now} {after} {i} room w h e =
+    let one = big_endian 4 (get_or words i 0) in
+    let put = lent (0 + 4 * i) one now _ (omega (arith, w.kept)) refl in
+    subst (λ (l : List ℕ). Written (big_endian 4) 4 0 words before l (i + 1)) (put ∙ ap (λ (n : ℕ). splice n one now) (zero-add (4 * i)) ∙ sym e)
+    (written-more (length-big_endian 4) (omega arith) w h refl (get_or_default words i 0 _ h) refl)
 
 module _ (w : Record) (lent : ℕ) (strings : List ℕ) where
   pub finish_exactly : Exactly (finish_rows w lent strings) (finish_answer w lent strings)

@@ -2,7 +2,8 @@
 #![tactic(auto)]
 
 ghost use Rattle.std.specs.Prelude.{◌≡◌, ◌+◌, ◌*◌, ◌≤◌, ◌<◌, ◌^◌, length};
-ghost use Rattle.fdt_bytes.specs.Splice.{over};
+ghost use Rattle.fdt_bytes.specs.BigEndian.{cell_bytes};
+ghost use Rattle.fdt_bytes.specs.Splice.{over, splice};
 ghost use Rattle.fdt_format.specs.Tokens.{final_bytes};
 ghost use Rattle.fdt_header.specs.Header.{structure_start};
 ghost use Rattle.fdt_finish.specs.Boot.{boot};
@@ -69,6 +70,16 @@ fn put_final(rest: &mut [u8], strings: &[u8])
     fdt_bytes::append_bytes(&mut rest[4..], strings);
 }
 
+// Rewrites the header, word by word.
+fn put_header(blob: &mut [u8], words: &[u32])
+    requires { 4 * length words.now ≤ length blob.old }
+    ensures { blob.new ≡ splice 0 (cell_bytes 4 words.now) blob.old }
+{
+    for (i, word) in words.iter().enumerate() {
+        fdt_splice::update_u32(blob, 4 * i, *word);
+    }
+}
+
 // Writes word 9 and the used strings into the rest of the blob, and the header in front.
 fn put_finish(w: Record, blob: &mut [u8], strings: &[u8])
     requires started { structure_start w.reservations ≤ w.blob_used }
@@ -86,7 +97,7 @@ fn put_finish(w: Record, blob: &mut [u8], strings: &[u8])
         size_dt_strings: size as u32,
         boot_cpuid_phys: w.boot_cpuid_phys,
     };
-    fdt_splice::cells_at(blob, 0, &header.words());
+    put_header(blob, &header.words());
 }
 
 // Finishes a blob: word 9 and the strings go into the rest, and the header is rewritten.

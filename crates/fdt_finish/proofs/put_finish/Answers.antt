@@ -4,7 +4,6 @@ use Prim.Native.Nat.{◌+◌}
 use native.Mathlib.Omega.{arith}
 use lib.ListN.{length-take, length-drop}
 use lib.Seq.{length-take-le}
-use Rattle.fdt_bytes.specs.BigEndian.{cell_bytes}
 use Rattle.fdt_bytes.proofs.Splice.{lent}
 use Rattle.fdt_header.proofs.HeaderBytes.{words_by_start}
 use Rattle.fdt_format.specs.Tokens.{final_bytes}
@@ -20,10 +19,10 @@ pub put_final-requires : goal.put_final-requires
 put_final-requires c = simp (length-take, length-drop) (omega (arith, c.requires))
 
 pub returns : goal.returns
-unfolding used_strings cell_bytes
+unfolding used_strings
 returns c =
     let a = c.args in
     finished_by_parts a.w a.blob.now a.strings.now
     (lent a.w.blob_used (final_bytes (used_strings a.w a.strings.now)) a.blob.now _ (omega (arith, c.requires)) c.put_final.ensures)
     (c.words.ensures ∙ words_by_start a.w.reservations (a.w.blob_used + 4) a.w.strings_used a.w.boot_cpuid_phys c.structure_start.ensures)
-    c.cells_at.ensures
+    c.put_header.ensures
