@@ -129,9 +129,17 @@ impl Cause {
                 Cause::Token(TokenCause::of(structure_from(blob, fault.place)))
             }
             Refusal::Unreadable(Unreadable::NameOffset) => {
-                Cause::NameOffset(name_offset(blob, fault.place))
+                Cause::of_name_offset(structure_from(blob, fault.place))
             }
             Refusal::Depth => Cause::Depth,
+        }
+    }
+
+    // Why the name offset of the property at the front of what is left of a structure is not good.
+    fn of_name_offset(rest: &[u8]) -> Cause {
+        match rest.as_chunks::<4>() {
+            ([_, _, offset, ..], _) => Cause::NameOffset(u32::from_be_bytes(*offset)),
+            _ => Cause::Token(TokenCause::CutProperty),
         }
     }
 }
@@ -185,10 +193,10 @@ impl TokenCause {
         match u32::from_be_bytes(*word) {
             FDT_BEGIN_NODE => TokenCause::NodeName,
             FDT_END_NODE => TokenCause::NoNode,
-            FDT_PROP if fdt_read_token::property_size(rest, 0, rest.len()) == 0 => {
-                TokenCause::CutProperty
-            }
-            FDT_PROP => TokenCause::Misplaced,
+            FDT_PROP => match fdt_read_token::property_size(rest, 0, rest.len()) {
+                Some(_) => TokenCause::Misplaced,
+                None => TokenCause::CutProperty,
+            },
             FDT_END if rest.len() == 4 => TokenCause::NodeOpen,
             FDT_END => TokenCause::GoesOn,
             word => TokenCause::Unknown(word),
@@ -203,12 +211,4 @@ fn structure_from(blob: &[u8], at: usize) -> &[u8] {
     }
     let end = fdt_read_header::areas_of(blob).structure_end;
     text_words::part(blob, at, end)
-}
-
-// The name offset of the property at a place; 0 where the blob has no such property.
-fn name_offset(blob: &[u8], at: usize) -> u32 {
-    match text_words::part(blob, at, blob.len()).as_chunks::<4>() {
-        ([_, _, offset, ..], _) => u32::from_be_bytes(*offset),
-        _ => 0,
-    }
 }

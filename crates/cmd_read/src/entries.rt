@@ -1,12 +1,12 @@
 // The answer of the reader and its entries, a line each.
-use fdt_reader::ReadAnswer;
+use fdt_reader::{ReadError, Values};
 use std::fmt;
 use std::fmt::{Display, Formatter, Write};
 
 // The answer of the reader, and the list of its entries, four numbers each.
 #[derive(Clone, Copy)]
 pub struct Entries<'a> {
-    pub answer: ReadAnswer,
+    pub answer: Result<Values, ReadError>,
     pub list: &'a [u32],
 }
 

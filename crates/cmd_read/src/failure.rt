@@ -12,8 +12,6 @@ pub enum Failure {
     Unread(input::Refused),
     // The blob has this fault, and its bytes there say the cause.
     Refused(Fault, Cause),
-    // The list has no room for the entries.
-    ShortList,
     Unwritten,
     OutOfMemory,
 }
@@ -36,7 +34,6 @@ impl Display for Failure {
                 let place = fault.place;
                 write!(f, "refused {number} at {place}: {cause}")
             }
-            Failure::ShortList => f.write_str("the blob has too many entries"),
             Failure::Unwritten => f.write_str("the output cannot be written"),
             Failure::OutOfMemory => f.write_str("out of memory"),
         }

@@ -10,7 +10,6 @@ mod tree;
 use cause::Cause;
 use entries::Entries;
 use failure::Failure;
-use fdt_reader::{ReadAnswer, Surveyed};
 use std::env::Env;
 use std::fmt::Display;
 use text_words::input;
@@ -35,7 +34,7 @@ fn report(rt: &impl Eprint, done: Result<(), Failure>) {
     }
 }
 
-// Whether the entries are asked for.
+// Whether the entries are asked for. The argument is read as bytes: `env::args` refuses all where any is not UTF-8.
 fn entries_asked(rt: &impl Env) -> bool {
     let mut word = [0; 8];
     match rt.arg(1, &mut word) {
@@ -56,26 +55,19 @@ fn read<R: Print + Eprint + AllocGlobal>(
     as_entries: bool,
 ) -> Result<(), Failure> {
     match fdt_reader::survey(blob) {
-        Surveyed::Readable(areas, reservations, entries) => {
-            let mut list = vec![in rt.alloc(); 0; entries.saturating_mul(4)]?;
+        Ok(seen) => {
+            let mut list = vec![in rt.alloc(); 0; seen.entries.saturating_mul(4)]?;
             let answer = fdt_reader::read(blob, &mut list);
             let list = &list;
             if as_entries {
-                return show(rt, Entries { answer, list });
+                show(rt, Entries { answer, list })
+            } else {
+                show(rt, Tree { blob, seen, list })
             }
-            show(
-                rt,
-                Tree {
-                    blob,
-                    areas,
-                    reservations,
-                    list,
-                },
-            )
         }
-        Surveyed::Refused(fault) => {
+        Err(fault) => {
             if as_entries {
-                let answer = ReadAnswer::Refused(fault.refusal);
+                let answer = Err(fault.into());
                 report(rt, show(rt, Entries { answer, list: &[] }));
             }
             Err(Failure::Refused(fault, Cause::of(blob, fault)))

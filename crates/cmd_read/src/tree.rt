@@ -1,21 +1,21 @@
 // The tree of a blob, from the reader's entries.
-use fdt_format::{Areas, FDT_BEGIN_NODE, FDT_PROP};
+use fdt_format::{FDT_BEGIN_NODE, FDT_PROP};
+use fdt_reader::Surveyed;
 use std::fmt;
 use std::fmt::{Display, Formatter, Write};
 use text_source::{Indent, Name, NodeName, Value};
 
-// A blob, its areas, how many reservations it has, and the list of its entries, four numbers each.
+// A blob, its survey, and the list of its entries, four numbers each.
 #[derive(Clone, Copy)]
 pub struct Tree<'a> {
     pub blob: &'a [u8],
-    pub areas: Areas,
-    pub reservations: usize,
+    pub seen: Surveyed,
     pub list: &'a [u32],
 }
 
 impl Display for Tree<'_> {
     fn fmt<W: Write>(&self, f: &mut Formatter<W>) -> fmt::Result {
-        let boot = self.areas.boot;
+        let boot = self.seen.areas.boot;
         write!(f, "/dts-v1/;\n// boot_cpuid_phys: 0x{boot:x}\n\n")?;
         self.reservations(f)?;
         self.nodes(f)
@@ -25,9 +25,9 @@ impl Display for Tree<'_> {
 impl Tree<'_> {
     // The lines of the reservations.
     fn reservations<W: Write>(&self, f: &mut Formatter<W>) -> fmt::Result {
-        let (numbers, _) = from(self.blob, self.areas.reservations).as_chunks::<8>();
+        let (numbers, _) = from(self.blob, self.seen.areas.reservations).as_chunks::<8>();
         let (pairs, _) = numbers.as_chunks::<2>();
-        for [address, size] in pairs.iter().take(self.reservations) {
+        for [address, size] in pairs.iter().take(self.seen.reservations) {
             let address = u64::from_be_bytes(*address);
             let size = u64::from_be_bytes(*size);
             writeln!(f, "/memreserve/\t0x{address:016x} 0x{size:016x};")?;

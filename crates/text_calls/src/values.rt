@@ -1,9 +1,9 @@
 // The values of a line: numbers, bytes in two hexadecimal digits each, and strings in double quotes.
-ghost use Rattle.std.specs.Prelude.{◌≤◌, ◌<◌, length, IfSome, IfOk};
+ghost use Rattle.std.specs.Prelude.{◌≡◌, ◌≤◌, ◌<◌, length, sum, vec_len, IfSome, IfOk};
 
 use crate::line::Wrong;
 use crate::verbs::Verb;
-use std::alloc::{AllocError, Global};
+use std::alloc::Global;
 use text_words::{digit, number};
 
 // The most strings of a line, and the most bytes in them, that are kept. No blob has room for so many.
@@ -14,6 +14,8 @@ const MOST: usize = 65_536;
 pub struct Strings {
     pub bytes: Vec<u8>,
     pub lengths: Vec<usize>,
+
+    ghost joined: { sum lengths.items ≡ vec_len bytes },
 }
 
 // What a line gives to its call.
@@ -89,35 +91,40 @@ impl Values<'_> {
 
     // The strings up to a comment.
     pub(crate) fn strings(self, alloc: Global) -> Result<Strings, Wrong> {
-        let mut strings = Strings {
-            bytes: Vec::new(alloc),
-            lengths: Vec::new(alloc),
-        };
+        let mut bytes = Vec::new(alloc);
+        let mut lengths = Vec::new(alloc);
         let mut rest = trimmed(self.text);
         while let [b'"', text @ ..] = rest {
-            rest = self.string(text, &mut strings)?;
+            let start = bytes.len();
+            rest = self.string(text, &mut bytes)?;
+            if lengths.len() < MOST {
+                lengths.push(bytes.len() - start)?;
+            } else {
+                bytes.truncate(start);
+            }
         }
         match rest {
-            [] | [b'#', ..] => Ok(strings),
+            [] | [b'#', ..] => Ok(Strings { bytes, lengths }),
             _ => Err(self.wrong()),
         }
     }
 
-    // Adds the string at the front of a text, and returns what follows its closing quote and blanks.
-    fn string<'a>(self, text: &'a [u8], strings: &mut Strings) -> Result<&'a [u8], Wrong>
-        ensures { IfOk result (λ r. length r.now ≤ length text.now) }
+    // Adds the string at the front of a text to bytes, as far as they are kept, and returns what follows its closing quote and blanks.
+    fn string<'a>(self, text: &'a [u8], bytes: &mut Vec<u8>) -> Result<&'a [u8], Wrong>
+        ensures rest { IfOk result (λ r. length r.now ≤ length text.now) }
+        ensures longer { vec_len bytes.old ≤ vec_len bytes.new }
     {
-        let start = strings.bytes.len();
         let mut rest = text;
         loop {
             if let [b'"', after @ ..] = rest {
-                strings.end(start)?;
                 return self.apart(after);
             }
             let Some((b, after)) = character(rest) else {
                 return Err(self.wrong());
             };
-            strings.put(b)?;
+            if bytes.len() < MOST {
+                bytes.push(b)?;
+            }
             rest = after;
         }
     }
@@ -130,24 +137,6 @@ impl Values<'_> {
             [b, ..] if !blank(*b) => Err(self.wrong()),
             _ => Ok(trimmed(text)),
         }
-    }
-}
-
-impl Strings {
-    // Adds a byte of the string after the last, as long as it is kept.
-    fn put(&mut self, b: u8) -> Result<(), AllocError> {
-        if self.bytes.len() < MOST && self.lengths.len() < MOST {
-            self.bytes.push(b)?;
-        }
-        Ok(())
-    }
-
-    // Ends a string that begins at this place of the bytes.
-    fn end(&mut self, start: usize) -> Result<(), AllocError> {
-        if self.lengths.len() < MOST {
-            self.lengths.push(self.bytes.len().saturating_sub(start))?;
-        }
-        Ok(())
     }
 }
 

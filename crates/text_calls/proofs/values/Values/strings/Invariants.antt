@@ -1,6 +1,9 @@
--- `Values::strings` ends: each string leaves less of the text.
-use Rattle.std.proofs.Common.{length}
+-- `Values::strings` ends, since each string leaves less of the text; the lengths add up to the bytes.
+use Rattle.std.proofs.Common.{◌≡◌, length, sum, vec_len}
 use Rattle.text_calls.proofs.values.Values.strings.Given as goal
+
+abbrev pub invariant-loop-rest : goal.invariant-loop-rest
+invariant-loop-rest l = sum l.lengths.items ≡ vec_len l.bytes
 
 abbrev pub decreases-loop-rest : goal.decreases-loop-rest
 decreases-loop-rest l = length l.rest
