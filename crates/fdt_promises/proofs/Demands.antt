@@ -40,7 +40,7 @@ use Rattle.fdt_walk.specs.Reached.{Reached, Meets}
 use Rattle.fdt_walk.specs.ReaderWalk.{reader_walk}
 use Rattle.fdt_walk.proofs.Reached.{no_fault_at_4}
 use Rattle.fdt_walk.proofs.Walked.{reader_skip}
-use Rattle.fdt_reader.specs.declared.ReadAnswer.{ReadAnswer}
+use Rattle.fdt_reader.specs.Reader.{ReadAnswer}
 use Rattle.fdt_reader.specs.Numbers.{Tells}
 use Rattle.fdt_reader.specs.Reader.{Read}
 use Rattle.std.specs.Prelude.{Err}

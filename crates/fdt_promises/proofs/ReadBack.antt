@@ -23,7 +23,7 @@ use Rattle.fdt_walk.specs.Depth.{most_open}
 use Rattle.fdt_walk.specs.Reached.{Reached}
 use Rattle.fdt_walk.proofs.Capped.{Shallow, shallow-nodes}
 use Rattle.fdt_walk.proofs.Reached.{none_at_4}
-use Rattle.fdt_reader.specs.declared.ReadAnswer.{ReadAnswer}
+use Rattle.fdt_reader.specs.Reader.{ReadAnswer}
 use Rattle.fdt_reader.specs.Numbers.{Describes, short_list}
 use Rattle.fdt_reader.specs.Reader.{number_of, filled, Read}
 use Rattle.fdt_reader.proofs.Exactly.{number_exactly, accepted-tells, refused-unaltered, refused_valueless}

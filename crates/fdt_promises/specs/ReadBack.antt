@@ -8,8 +8,7 @@ use Rattle.fdt_format.specs.Events.{Event, begins, has, ends}
 use Rattle.fdt_format.specs.Reading.{event_at}
 use Rattle.fdt_format.specs.Tokens.{begin_token, end_token, property_token}
 use Rattle.fdt_opening.specs.Opening.{count}
-use Rattle.fdt_reader.specs.declared.ReadAnswer.{ReadAnswer}
-use Rattle.fdt_reader.specs.Reader.{number_of, no_values, values_of, filled}
+use Rattle.fdt_reader.specs.Reader.{ReadAnswer, number_of, no_values, values_of, filled}
 use Rattle.fdt_promises.specs.Run.{Run, events_in, boot_in, blob}
 
 -- the entry of an event at a place, if these names are in the strings, which begin at `strings`
