@@ -6,14 +6,10 @@ use fdt_writer::FdtWriter;
 
 // The bytes of `text` from `from` up to `to`; none if it has no such part.
 fn part(text: &[u8], from: usize, to: usize) -> &[u8] {
-    if from <= to && to <= text.len() {
-        &text[from..to]
-    } else {
-        &text[..0]
-    }
+    text.get(from..to).unwrap_or(&[])
 }
 
-// Makes a call: 1 begins a node, 2 ends it, 3 writes a property, and any other number finishes.
+// Makes a call: 1 begins a node, 2 ends it, 3 writes a property, and any other number finishes. The numbers are those that the benchmark in Rust passes.
 fn made(
     w: FdtWriter,
     kind: usize,
@@ -23,23 +19,10 @@ fn made(
     strings: &mut [u8],
 ) -> FdtWriter {
     match kind {
-        1 => {
-            let b = w.begin_node(blob, name);
-            b.writer
-        }
-        2 => {
-            let r = w.0;
-            let a = w.end_node(blob, FdtWriterNode(r.node_depth));
-            a.writer
-        }
-        3 => {
-            let a = w.property(blob, strings, name, val);
-            a.writer
-        }
-        _ => {
-            let a = w.finish(blob, strings);
-            a.writer
-        }
+        1 => w.begin_node(blob, name).writer,
+        2 => w.end_node(blob, FdtWriterNode(w.0.node_depth)).writer,
+        3 => w.property(blob, strings, name, val).writer,
+        _ => w.finish(blob, strings).writer,
     }
 }
 
@@ -52,16 +35,11 @@ pub extern "C" fn export_bench(
     blob: &mut [u8],
     strings: &mut [u8],
 ) -> usize {
-    let opened = FdtWriter::new(blob, strings, &[]);
-    let mut w = opened.writer;
-    let n = calls.len() / 5;
-    let mut i = 0;
-    while i < n {
-        let at = 5 * i;
-        let name = part(text, calls[at + 1], calls[at + 2]);
-        let val = part(text, calls[at + 3], calls[at + 4]);
-        w = made(w, calls[at], name, val, blob, strings);
-        i += 1;
+    let mut w = FdtWriter::new(blob, strings, &[]).writer;
+    for call in calls.chunks_exact(5) {
+        let name = part(text, call[1], call[2]);
+        let val = part(text, call[3], call[4]);
+        w = made(w, call[0], name, val, blob, strings);
     }
     w.show(blob).len()
 }

@@ -5,14 +5,15 @@ use mathlib.Core.List.{List, [], ◌∷◌}
 use Prim.Native.Nat.{ℕ, zero, suc, ◌+◌}
 use lib.Dec.{eqb, eqb-suc-zero}
 use lib.ListN.{length, take}
-use Rattle.fdt_record.specs.declared.Answer.{Answer}
-use Rattle.fdt_record.specs.declared.Answer.TheVariants.{Done}
-use Rattle.fdt_record.specs.Answers.{number_of, accepts}
-use Rattle.fdt_record.proofs.Answers.{accepts-done, upon-refused}
-use Rattle.fdt_nodes.specs.Begin.{begin, begin_answer}
+use Rattle.std.specs.Prelude.{Result, Ok, Err, IfOk}
+use Rattle.fdt_record.specs.declared.Error.{Error}
+use Rattle.fdt_record.specs.Answers.{Answer, Done, answer_of, number_of, accepts}
+use Rattle.fdt_record.proofs.Answers.{accepts-done, upon-err, upon-refused}
+use Rattle.fdt_nodes.specs.declared.FdtWriterNode.{FdtWriterNode}
+use Rattle.fdt_nodes.specs.Begin.{begin_answer}
 use Rattle.fdt_finish.specs.Shown.{showable, shown}
 use Rattle.fdt_calls.specs.Calls.{Call, begin_node, Desk, asks, answer}
-use Rattle.fdt_calls.specs.Called.{Called, shown_part}
+use Rattle.fdt_calls.specs.Called.{Called, handle_of, shown_part}
 use Rattle.fdt_calls.specs.Made.{Made, handle_number, shown_length}
 
 pub by_number : {c : Call} {s : Desk} {a : Answer} {n : ℕ} {t : Desk} → Called c s a t → n ≡ number_of a → Made c s n t
@@ -35,9 +36,20 @@ pub refused_at-other : {c : Call} {s t : Desk} {n : ℕ} → Made c s n t → (n
 unfolding accepts
 refused_at-other {c} {s} p other = not_0 (number_of (answer (asks c) s)) (λ e. other (p.numbered ∙ e))
 
+-- the handle of a begin's answer; 0 if it is refused
+abbrev pub handle_or_0 : Result FdtWriterNode Error → ℕ
+handle_or_0 (Ok handle) = handle.0
+handle_or_0 (Err error) = 0
+
+-- it is the number of the call's handle
+pub begun_handle : {name : List ℕ} {s t : Desk} (r : Result FdtWriterNode Error) → Called (begin_node name) s (answer_of r) t → IfOk r (λ handle. handle ≡ handle_of s name) → handle_or_0 r ≡ handle_number s name
+unfolding asks answer
+begun_handle (Ok handle) p h = ap (λ (x : FdtWriterNode). x.0) h
+begun_handle {name} {s} (Err error) p h = sym (upon-err (s.writer.node_depth + 1) 0 (sym p.answered))
+
 -- a refused begin gives the handle 0
 pub refused_handle : {name : List ℕ} {s t : Desk} {n : ℕ} → Made (begin_node name) s n t → (n ≡ 0 → ⊥) → handle_number s name ≡ 0
-unfolding asks answer begin accepts
+unfolding asks answer accepts
 refused_handle {name} {s} p other = upon-refused (begin_answer s.writer (length s.blob) name) (s.writer.node_depth + 1) 0 (refused_at-other p other)
 
 take_front : (n : ℕ) (l : List ℕ) → take n l ≡ take (length (take n l)) l

@@ -4,9 +4,8 @@ use mathlib.Core.Bool.{Bool, true, false}
 use mathlib.Core.List.{List}
 use Prim.Native.Nat.{ℕ}
 use Rattle.fdt_values.specs.Value.{Value}
-use Rattle.fdt_record.specs.declared.Answer.TheVariants.{Done}
 use Rattle.fdt_record.specs.declared.Outcome.{Outcome}
-use Rattle.fdt_record.specs.Answers.{accepts, upon}
+use Rattle.fdt_record.specs.Answers.{Done, accepts, upon}
 use Rattle.fdt_record.proofs.Answers.{accepts-done, upon-done, upon-refused}
 use Rattle.fdt_opening.specs.Opening.{opening, opening_blob}
 use Rattle.fdt_nodes.specs.Begin.{begin, begin_blob}
@@ -22,16 +21,16 @@ use Rattle.fdt_calls.proofs.Desks.{same-desk}
 module _ (s : Desk) (value : ℕ) (e : mark_answer value s ≡ Done) where
   pub marked-answer : answer (to_mark value) s ≡ answer (to_have phandle_name (phandle_value value)) (marked s value)
   unfolding answer phandle property
-  marked-answer = ap (λ (o : Outcome). o.answer) (upon-done _ _ _ e)
+  marked-answer = ap (λ (o : Outcome (Unit {0})). o.answer) (upon-done _ _ _ e)
 
   pub marked-after : after (to_mark value) s ≡ after (to_have phandle_name (phandle_value value)) (marked s value)
   unfolding after phandle phandle_blob phandle_strings phandle_table
-  marked-after = same-desk (ap (λ (o : Outcome). o.after) (upon-done _ _ _ e)) (upon-done _ _ _ e) (upon-done _ _ _ e) (upon-done _ _ _ e)
+  marked-after = same-desk (ap (λ (o : Outcome (Unit {0})). o.after) (upon-done _ _ _ e)) (upon-done _ _ _ e) (upon-done _ _ _ e) (upon-done _ _ _ e)
 
 -- a phandle that is refused before its value is recorded is refused
 pub refused_mark : (s : Desk) (value : ℕ) → accepts (mark_answer value s) ≡ false → accepts (answer (to_mark value) s) ≡ false
 unfolding answer phandle
-refused_mark s value e = ap (λ (o : Outcome). accepts o.answer) (upon-refused _ _ _ e) ∙ e
+refused_mark s value e = ap (λ (o : Outcome (Unit {0})). accepts o.answer) (upon-refused _ _ _ e) ∙ e
 
 -- a refused property alters nothing
 unhad_after : (s : Desk) (name : List ℕ) (v : Value) → accepts (answer (to_have name v) s) ≡ false → after (to_have name v) s ≡ s
@@ -49,7 +48,7 @@ unmarked_after s value e = go (accepts (mark_answer value s)) refl
         marked-after s value d
         ∙ unhad_after (marked s value) phandle_name (phandle_value value) (sym (ap accepts (marked-answer s value d)) ∙ e)
         ∙ sym (upon-done _ _ _ d)
-    go false t = same-desk (ap (λ (o : Outcome). o.after) (upon-refused _ _ _ t)) (upon-refused _ _ _ t) (upon-refused _ _ _ t) (upon-refused _ _ _ t) ∙ sym (upon-refused _ _ _ t)
+    go false t = same-desk (ap (λ (o : Outcome (Unit {0})). o.after) (upon-refused _ _ _ t)) (upon-refused _ _ _ t) (upon-refused _ _ _ t) (upon-refused _ _ _ t) ∙ sym (upon-refused _ _ _ t)
 
 -- a refused call alters nothing, except what `unaltered` names
 pub refused-after : (s : Desk) (c : Request) → accepts (answer c s) ≡ false → after c s ≡ unaltered c s

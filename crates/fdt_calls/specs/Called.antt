@@ -1,9 +1,9 @@
 -- What it means that a public call was made. Every method of `FdtWriter` states it of its own call.
-use Rattle.std.specs.Prelude.{◌≡◌, List, ℕ}
-use Rattle.fdt_record.specs.declared.Answer.{Answer}
+use Rattle.std.specs.Prelude.{◌≡◌, List, ℕ, ◌+◌, length}
 use Rattle.fdt_record.specs.declared.Record.{Record}
+use Rattle.fdt_record.specs.Answers.{Answer, upon}
 use Rattle.fdt_nodes.specs.declared.FdtWriterNode.{FdtWriterNode}
-use Rattle.fdt_nodes.specs.Begin.{begin}
+use Rattle.fdt_nodes.specs.Begin.{begin_answer}
 use Rattle.fdt_finish.specs.Shown.{shown}
 use Rattle.fdt_calls.specs.Calls.{Call, asks, Desk, answer, after}
 
@@ -18,9 +18,11 @@ pub record Called (c : Call) (before : Desk) (given : Answer) (left : Desk) : Ty
   -- and so are the record and the buffers afterwards
   pub leaves : left ≡ after (asks c) before
 
--- the handle that beginning a node returns with its answer
+-- the handle that beginning a node returns: the depth just after the node began; 0 if it is refused
 abbrev pub handle_of : Desk → List ℕ → FdtWriterNode
-handle_of s name = (begin s.writer s.blob name).handle
+handle_of s name = record {
+  0 = upon (begin_answer s.writer (length s.blob) name) (s.writer.node_depth + 1) 0;
+}
 
 -- the part of the blob that showing returns
 abbrev pub shown_part : Desk → List ℕ

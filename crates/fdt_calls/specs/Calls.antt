@@ -3,10 +3,8 @@ use Rattle.std.specs.Prelude.{List, [], ◌∷◌, ◌++◌, ℕ, length, set}
 use Rattle.fdt_values.specs.Value.{Value, raw, cells, texts, value_bytes}
 use Rattle.fdt_format.specs.Description.{◌≔◌}
 use Rattle.fdt_format.specs.Events.{Event, begins, has, ends}
-use Rattle.fdt_record.specs.declared.Answer.{Answer}
-use Rattle.fdt_record.specs.declared.Answer.TheVariants.{Done}
 use Rattle.fdt_record.specs.declared.Record.{Record}
-use Rattle.fdt_record.specs.Answers.{upon}
+use Rattle.fdt_record.specs.Answers.{Answer, Done, upon}
 use Rattle.fdt_record.specs.Rows.{Row}
 use Rattle.fdt_record.specs.Tests.{alone_rows}
 use Rattle.fdt_opening.specs.Opening as of_opening

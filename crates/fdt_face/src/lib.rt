@@ -1,51 +1,30 @@
 // The writer lent and changed in place, as the crate's own methods do: each call leaves in it what the call by value returns.
 #![tactic(auto)]
 
-ghost use Rattle.std.specs.Prelude.{◌≡◌, List, ℕ};
+ghost use Rattle.std.specs.Prelude.{◌≡◌, List, ℕ, IfOk};
+ghost use Rattle.fdt_record.specs.Answers.{answer_of};
 ghost use Rattle.fdt_calls.specs.Calls.{begin_node, end_node, property, finish};
 ghost use Rattle.fdt_calls.specs.Called.{desk_of, Called, handle_of};
 
 use fdt_nodes::FdtWriterNode;
-use fdt_record::Answer;
+use fdt_record::Error;
 use fdt_writer::FdtWriter;
 
-// The answer of beginning a node, and the node's handle.
-#[derive(Clone, Copy)]
-pub struct NodeGiven {
-    pub answer: Answer,
-    pub handle: FdtWriterNode,
-}
-
-// The same, and the new writer.
-#[derive(Clone, Copy)]
-struct NodeMade {
-    given: NodeGiven,
-    writer: FdtWriter,
-}
-
-// Begins a node on a writer by value.
-fn node_made(w: FdtWriter, blob: &mut [u8], name: &[u8]) -> NodeMade
-    ensures { (strings phandles : List ℕ) → Called (begin_node name.now) (desk_of w.0 blob.old strings phandles) result.given.answer (desk_of result.writer.0 blob.new strings phandles) × (result.given.handle ≡ handle_of (desk_of w.0 blob.old strings phandles) name.now) }
+// As `FdtWriter::begin_node`, in place.
+pub fn begin_node(
+    w: &mut FdtWriter,
+    blob: &mut [u8],
+    name: &[u8],
+) -> Result<FdtWriterNode, Error>
+    ensures { (strings phandles : List ℕ) → Called (begin_node name.now) (desk_of w.old.0 blob.old strings phandles) (answer_of result) (desk_of w.new.0 blob.new strings phandles) × IfOk result (λ handle. handle ≡ handle_of (desk_of w.old.0 blob.old strings phandles) name.now) }
 {
     let r = w.begin_node(blob, name);
-    let answer = r.answer;
-    let handle = r.handle;
-    let writer = r.writer;
-    let given = NodeGiven { answer, handle };
-    NodeMade { given, writer }
-}
-
-// As `FdtWriter::begin_node`, in place.
-pub fn begin_node(w: &mut FdtWriter, blob: &mut [u8], name: &[u8]) -> NodeGiven
-    ensures { (strings phandles : List ℕ) → Called (begin_node name.now) (desk_of w.old.0 blob.old strings phandles) result.answer (desk_of w.new.0 blob.new strings phandles) × (result.handle ≡ handle_of (desk_of w.old.0 blob.old strings phandles) name.now) }
-{
-    let r = node_made(*w, blob, name);
     *w = r.writer;
-    r.given
+    r.answer
 }
 
 // As `FdtWriter::end_node`, in place.
-pub fn end_node(w: &mut FdtWriter, blob: &mut [u8], node: FdtWriterNode) -> Answer
+pub fn end_node(w: &mut FdtWriter, blob: &mut [u8], node: FdtWriterNode) -> Result<(), Error>
     ensures { (strings phandles : List ℕ) → Called (end_node node.0) (desk_of w.old.0 blob.old strings phandles) result (desk_of w.new.0 blob.new strings phandles) }
 {
     let r = w.end_node(blob, node);
@@ -60,7 +39,7 @@ pub fn property(
     strings: &mut [u8],
     name: &[u8],
     val: &[u8],
-) -> Answer
+) -> Result<(), Error>
     ensures { (phandles : List ℕ) → Called (property name.now val.now) (desk_of w.old.0 blob.old strings.old phandles) result (desk_of w.new.0 blob.new strings.new phandles) }
 {
     let r = w.property(blob, strings, name, val);
@@ -69,7 +48,7 @@ pub fn property(
 }
 
 // As `FdtWriter::finish`, in place.
-pub fn finish(w: &mut FdtWriter, blob: &mut [u8], strings: &[u8]) -> Answer
+pub fn finish(w: &mut FdtWriter, blob: &mut [u8], strings: &[u8]) -> Result<(), Error>
     ensures { (phandles : List ℕ) → Called finish (desk_of w.old.0 blob.old strings.now phandles) result (desk_of w.new.0 blob.new strings.now phandles) }
 {
     let r = w.finish(blob, strings);

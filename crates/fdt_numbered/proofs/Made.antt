@@ -2,8 +2,7 @@
 use mathlib.Core.Path.{◌≡◌, ap, ◌∙◌}
 use mathlib.Core.List.{List}
 use Prim.Native.Nat.{ℕ}
-use Rattle.fdt_record.specs.declared.Answer.{Answer}
-use Rattle.fdt_record.specs.Answers.{number_of}
+use Rattle.fdt_record.specs.Answers.{Answer, number_of}
 use Rattle.fdt_calls.specs.Calls.{Call, Desk}
 use Rattle.fdt_calls.specs.Called.{desk_of, Called}
 use Rattle.fdt_calls.specs.Made.{Made}

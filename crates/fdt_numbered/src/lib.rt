@@ -10,7 +10,7 @@ ghost use Rattle.fdt_calls.specs.Made.{Made, handle_number, shown_length};
 use fdt_nodes::FdtWriterNode;
 use fdt_writer::{Answered, FdtWriter};
 
-// The number of a call's answer, and the new writer.
+// The number of a call's answer, and the new writer: C knows no `Result`.
 #[derive(Clone, Copy)]
 pub struct Numbered {
     pub number: u32,
@@ -18,14 +18,14 @@ pub struct Numbered {
 }
 
 // The number of an answer, with the writer beside it.
-fn with_number(r: Answered) -> Numbered
-    ensures { (result.number ≡ number_of r.answer) × (result.writer ≡ r.writer) }
-{
-    let answer = r.answer;
-    let writer = r.writer;
-    Numbered {
-        number: fdt_record::number(answer),
-        writer,
+impl<T: Copy> From<Answered<T>> for Numbered {
+    ghost from_gives = { λ answered numbered. (numbered.number ≡ number_of answered.answer) × (numbered.writer ≡ answered.writer) };
+
+    fn from(answered: Answered<T>) -> Numbered {
+        Numbered {
+            number: fdt_record::number(answered.answer),
+            writer: answered.writer,
+        }
     }
 }
 
@@ -33,7 +33,7 @@ fn with_number(r: Answered) -> Numbered
 pub fn new(w: FdtWriter, blob: &mut [u8], strings: &[u8], phandles: &[u32]) -> Numbered
     ensures { Made new (desk_of w.0 blob.old strings.now phandles.now) result.number (desk_of result.writer.0 blob.new strings.now phandles.now) }
 {
-    with_number(FdtWriter::new(blob, strings, phandles))
+    FdtWriter::new(blob, strings, phandles).into()
 }
 
 // As `FdtWriter::new_with_mem_reserv`. The writer that is passed in does not matter.
@@ -46,14 +46,14 @@ pub fn new_with_mem_reserv(
 ) -> Numbered
     ensures { Made (new_with_mem_reserv mem_reservations.now) (desk_of w.0 blob.old strings.now phandles.now) result.number (desk_of result.writer.0 blob.new strings.now phandles.now) }
 {
-    with_number(FdtWriter::new_with_mem_reserv(blob, strings, phandles, mem_reservations))
+    FdtWriter::new_with_mem_reserv(blob, strings, phandles, mem_reservations).into()
 }
 
 // As `FdtWriter::set_boot_cpuid_phys`.
 pub fn set_boot_cpuid_phys(w: FdtWriter, boot_cpuid_phys: u32) -> Numbered
     ensures { (blob strings phandles : List ℕ) → Made (set_boot_cpuid_phys boot_cpuid_phys) (desk_of w.0 blob strings phandles) result.number (desk_of result.writer.0 blob strings phandles) }
 {
-    with_number(w.set_boot_cpuid_phys(boot_cpuid_phys))
+    w.set_boot_cpuid_phys(boot_cpuid_phys).into()
 }
 
 // As `FdtWriter::begin_node`. Stores the handle in `node`; 0 if the call is refused.
@@ -61,21 +61,18 @@ pub fn begin_node(w: FdtWriter, blob: &mut [u8], name: &[u8], node: &mut usize) 
     ensures { (strings phandles : List ℕ) → Made (begin_node name.now) (desk_of w.0 blob.old strings phandles) result.number (desk_of result.writer.0 blob.new strings phandles) × (node.new ≡ handle_number (desk_of w.0 blob.old strings phandles) name.now) }
 {
     let r = w.begin_node(blob, name);
-    let handle = r.handle;
-    *node = handle.0;
-    let answer = r.answer;
-    let writer = r.writer;
-    Numbered {
-        number: fdt_record::number(answer),
-        writer,
-    }
+    *node = match r.answer {
+        Ok(handle) => handle.0,
+        Err(_) => 0,
+    };
+    r.into()
 }
 
 // As `FdtWriter::end_node`.
 pub fn end_node(w: FdtWriter, blob: &mut [u8], node: usize) -> Numbered
     ensures { (strings phandles : List ℕ) → Made (end_node node) (desk_of w.0 blob.old strings phandles) result.number (desk_of result.writer.0 blob.new strings phandles) }
 {
-    with_number(w.end_node(blob, FdtWriterNode(node)))
+    w.end_node(blob, FdtWriterNode(node)).into()
 }
 
 // As `FdtWriter::property`.
@@ -88,14 +85,14 @@ pub fn property(
 ) -> Numbered
     ensures { (phandles : List ℕ) → Made (property name.now val.now) (desk_of w.0 blob.old strings.old phandles) result.number (desk_of result.writer.0 blob.new strings.new phandles) }
 {
-    with_number(w.property(blob, strings, name, val))
+    w.property(blob, strings, name, val).into()
 }
 
 // As `FdtWriter::property_null`.
 pub fn property_null(w: FdtWriter, blob: &mut [u8], strings: &mut [u8], name: &[u8]) -> Numbered
     ensures { (phandles : List ℕ) → Made (property_null name.now) (desk_of w.0 blob.old strings.old phandles) result.number (desk_of result.writer.0 blob.new strings.new phandles) }
 {
-    with_number(w.property_null(blob, strings, name))
+    w.property_null(blob, strings, name).into()
 }
 
 // As `FdtWriter::property_string`.
@@ -108,7 +105,7 @@ pub fn property_string(
 ) -> Numbered
     ensures { (phandles : List ℕ) → Made (property_string name.now val.now) (desk_of w.0 blob.old strings.old phandles) result.number (desk_of result.writer.0 blob.new strings.new phandles) }
 {
-    with_number(w.property_string(blob, strings, name, val))
+    w.property_string(blob, strings, name, val).into()
 }
 
 // As `FdtWriter::property_string_list`.
@@ -122,7 +119,7 @@ pub fn property_string_list(
 ) -> Numbered
     ensures { (phandles : List ℕ) → Made (property_string_list name.now values.now lengths.now) (desk_of w.0 blob.old strings.old phandles) result.number (desk_of result.writer.0 blob.new strings.new phandles) }
 {
-    with_number(w.property_string_list(blob, strings, name, values, lengths))
+    w.property_string_list(blob, strings, name, values, lengths).into()
 }
 
 // As `FdtWriter::property_u32`.
@@ -135,7 +132,7 @@ pub fn property_u32(
 ) -> Numbered
     ensures { (phandles : List ℕ) → Made (property_u32 name.now val) (desk_of w.0 blob.old strings.old phandles) result.number (desk_of result.writer.0 blob.new strings.new phandles) }
 {
-    with_number(w.property_u32(blob, strings, name, val))
+    w.property_u32(blob, strings, name, val).into()
 }
 
 // As `FdtWriter::property_u64`.
@@ -148,7 +145,7 @@ pub fn property_u64(
 ) -> Numbered
     ensures { (phandles : List ℕ) → Made (property_u64 name.now val) (desk_of w.0 blob.old strings.old phandles) result.number (desk_of result.writer.0 blob.new strings.new phandles) }
 {
-    with_number(w.property_u64(blob, strings, name, val))
+    w.property_u64(blob, strings, name, val).into()
 }
 
 // As `FdtWriter::property_array_u32`.
@@ -161,7 +158,7 @@ pub fn property_array_u32(
 ) -> Numbered
     ensures { (phandles : List ℕ) → Made (property_array_u32 name.now numbers.now) (desk_of w.0 blob.old strings.old phandles) result.number (desk_of result.writer.0 blob.new strings.new phandles) }
 {
-    with_number(w.property_array_u32(blob, strings, name, numbers))
+    w.property_array_u32(blob, strings, name, numbers).into()
 }
 
 // As `FdtWriter::property_array_u64`.
@@ -174,7 +171,7 @@ pub fn property_array_u64(
 ) -> Numbered
     ensures { (phandles : List ℕ) → Made (property_array_u64 name.now numbers.now) (desk_of w.0 blob.old strings.old phandles) result.number (desk_of result.writer.0 blob.new strings.new phandles) }
 {
-    with_number(w.property_array_u64(blob, strings, name, numbers))
+    w.property_array_u64(blob, strings, name, numbers).into()
 }
 
 // As `FdtWriter::property_phandle`.
@@ -187,14 +184,14 @@ pub fn property_phandle(
 ) -> Numbered
     ensures { Made (property_phandle val) (desk_of w.0 blob.old strings.old phandles.old) result.number (desk_of result.writer.0 blob.new strings.new phandles.new) }
 {
-    with_number(w.property_phandle(blob, strings, phandles, val))
+    w.property_phandle(blob, strings, phandles, val).into()
 }
 
 // As `FdtWriter::finish`.
 pub fn finish(w: FdtWriter, blob: &mut [u8], strings: &[u8]) -> Numbered
     ensures { (phandles : List ℕ) → Made finish (desk_of w.0 blob.old strings.now phandles) result.number (desk_of result.writer.0 blob.new strings.now phandles) }
 {
-    with_number(w.finish(blob, strings))
+    w.finish(blob, strings).into()
 }
 
 // The length of the part that `FdtWriter::show` returns: that of the finished blob, or 0.

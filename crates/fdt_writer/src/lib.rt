@@ -1,59 +1,37 @@
 // The devicetree writer: each method takes the writer and returns an answer with the new writer.
 #![tactic(auto)]
 
-ghost use Rattle.std.specs.Prelude.{◌≡◌, List, ℕ};
-ghost use Rattle.fdt_record.specs.declared.Answer.TheVariants.{Done};
+ghost use Rattle.std.specs.Prelude.{◌≡◌, List, ℕ, IfOk};
+ghost use Rattle.fdt_record.specs.Answers.{Done, answer_of};
 ghost use Rattle.fdt_record.specs.declared.Record.{Record};
 ghost use Rattle.fdt_calls.specs.Calls.{new, new_with_mem_reserv, set_boot_cpuid_phys, begin_node, end_node, property, property_null, property_string, property_string_list, property_u32, property_u64, property_array_u32, property_array_u64, property_phandle, finish, show};
 ghost use Rattle.fdt_calls.specs.Called.{desk_of, Called, handle_of, shown_part};
-ghost use Rattle.fdt_writer.specs.Outcomes.{outcome_of, begun_of};
+ghost use Rattle.fdt_writer.specs.Outcomes.{outcome_of};
 
-use fdt_nodes::{Begun, FdtWriterNode};
-use fdt_record::{Answer, Outcome, Record};
+use fdt_nodes::FdtWriterNode;
+use fdt_record::{Error, Outcome, Record};
 
 // A writer: the record of its buffers and of the calls so far. The buffers are lent to each call.
 #[repr(C)]
 #[derive(Clone, Copy)]
 pub struct FdtWriter(pub Record);
 
-// The answer of a call, and the new writer.
+// The answer of a call, which for `begin_node` has the node's handle, and the new writer.
 #[derive(Clone, Copy)]
-pub struct Answered {
-    pub answer: Answer,
-    pub writer: FdtWriter,
-}
-
-// The answer of beginning a node, the node's handle, and the new writer.
-#[derive(Clone, Copy)]
-pub struct NodeAnswered {
-    pub answer: Answer,
-    pub handle: FdtWriterNode,
+pub struct Answered<T> {
+    pub answer: Result<T, Error>,
     pub writer: FdtWriter,
 }
 
 // The outcome of a call on the record, with the record as a writer.
-fn wrapped(o: Outcome) -> Answered
-    ensures { outcome_of result ≡ o }
-{
-    let answer = o.answer;
-    let after = o.after;
-    Answered {
-        answer,
-        writer: FdtWriter(after),
-    }
-}
+impl<T: Copy> From<Outcome<T>> for Answered<T> {
+    ghost from_gives = { λ outcome answered. outcome_of answered ≡ outcome };
 
-// The same for beginning a node.
-fn wrapped_node(o: Begun) -> NodeAnswered
-    ensures { begun_of result ≡ o }
-{
-    let answer = o.answer;
-    let handle = o.handle;
-    let after = o.after;
-    NodeAnswered {
-        answer,
-        handle,
-        writer: FdtWriter(after),
+    fn from(outcome: Outcome<T>) -> Answered<T> {
+        Answered {
+            answer: outcome.answer,
+            writer: FdtWriter(outcome.after),
+        }
     }
 }
 
@@ -62,7 +40,7 @@ fn wrapped_node(o: Begun) -> NodeAnswered
 impl FdtWriter {
     // Opens a writer over a blob buffer, a string buffer and a table of phandles, with no memory reservations.
     // Refused 14 only. A refused opening returns a closed writer, which every call except `show` refuses.
-    pub fn new(blob: &mut [u8], strings: &[u8], phandles: &[u32]) -> Answered
+    pub fn new(blob: &mut [u8], strings: &[u8], phandles: &[u32]) -> Answered<()>
         ensures { (w : Record) → Called new (desk_of w blob.old strings.now phandles.now) result.answer (desk_of result.writer.0 blob.new strings.now phandles.now) }
     {
         FdtWriter::new_with_mem_reserv(blob, strings, phandles, &[])
@@ -75,47 +53,47 @@ impl FdtWriter {
         strings: &[u8],
         phandles: &[u32],
         mem_reservations: &[u64],
-    ) -> Answered
+    ) -> Answered<()>
         ensures { (w : Record) → Called (new_with_mem_reserv mem_reservations.now) (desk_of w blob.old strings.now phandles.now) result.answer (desk_of result.writer.0 blob.new strings.now phandles.now) }
     {
-        wrapped(fdt_opening::open(blob, strings, phandles, mem_reservations))
+        fdt_opening::open(blob, strings, phandles, mem_reservations).into()
     }
 
     // Sets the boot processor's number in the header.
     // Refused 18, 17, in this order.
-    pub fn set_boot_cpuid_phys(self, boot_cpuid_phys: u32) -> Answered
+    pub fn set_boot_cpuid_phys(self, boot_cpuid_phys: u32) -> Answered<()>
         ensures { (blob strings phandles : List ℕ) → Called (set_boot_cpuid_phys boot_cpuid_phys) (desk_of self.0 blob strings phandles) result.answer (desk_of result.writer.0 blob strings phandles) }
     {
-        wrapped(fdt_finish::set_boot_cpuid_phys(self.0, boot_cpuid_phys))
+        fdt_finish::set_boot_cpuid_phys(self.0, boot_cpuid_phys).into()
     }
 
     // Begins a node inside the open one, and returns its handle.
     // Refused 18, 17, 12, 5, 10, 14, in this order.
-    pub fn begin_node(self, blob: &mut [u8], name: &[u8]) -> NodeAnswered
-        ensures { (strings phandles : List ℕ) → Called (begin_node name.now) (desk_of self.0 blob.old strings phandles) result.answer (desk_of result.writer.0 blob.new strings phandles) × (result.handle ≡ handle_of (desk_of self.0 blob.old strings phandles) name.now) }
+    pub fn begin_node(self, blob: &mut [u8], name: &[u8]) -> Answered<FdtWriterNode>
+        ensures { (strings phandles : List ℕ) → Called (begin_node name.now) (desk_of self.0 blob.old strings phandles) (answer_of result.answer) (desk_of result.writer.0 blob.new strings phandles) × IfOk result.answer (λ handle. handle ≡ handle_of (desk_of self.0 blob.old strings phandles) name.now) }
     {
-        wrapped_node(fdt_nodes::begin_node(self.0, blob, name))
+        fdt_nodes::begin_node(self.0, blob, name).into()
     }
 
     // Ends the open node, whose handle must be given.
     // Refused 18, 17, 6, 14, in this order.
-    pub fn end_node(self, blob: &mut [u8], node: FdtWriterNode) -> Answered
+    pub fn end_node(self, blob: &mut [u8], node: FdtWriterNode) -> Answered<()>
         ensures { (strings phandles : List ℕ) → Called (end_node node.0) (desk_of self.0 blob.old strings phandles) result.answer (desk_of result.writer.0 blob.new strings phandles) }
     {
-        wrapped(fdt_nodes::end_node(self.0, blob, node))
+        fdt_nodes::end_node(self.0, blob, node).into()
     }
 
     // Writes a property of the open node: a name and the bytes of its value.
     // Refused 18, 17, 2, 1, 5, 11, 20, 15, 14, in this order.
-    pub fn property(self, blob: &mut [u8], strings: &mut [u8], name: &[u8], val: &[u8]) -> Answered
+    pub fn property(self, blob: &mut [u8], strings: &mut [u8], name: &[u8], val: &[u8]) -> Answered<()>
         ensures { (phandles : List ℕ) → Called (property name.now val.now) (desk_of self.0 blob.old strings.old phandles) result.answer (desk_of result.writer.0 blob.new strings.new phandles) }
     {
-        wrapped(fdt_property_kinds::write_bytes(self.0, blob, strings, name, val))
+        fdt_property_kinds::write_bytes(self.0, blob, strings, name, val).into()
     }
 
     // Writes a property with an empty value.
     // Refused 18, 17, 2, 1, 5, 11, 20, 15, 14, in this order.
-    pub fn property_null(self, blob: &mut [u8], strings: &mut [u8], name: &[u8]) -> Answered
+    pub fn property_null(self, blob: &mut [u8], strings: &mut [u8], name: &[u8]) -> Answered<()>
         ensures { (phandles : List ℕ) → Called (property_null name.now) (desk_of self.0 blob.old strings.old phandles) result.answer (desk_of result.writer.0 blob.new strings.new phandles) }
     {
         self.property(blob, strings, name, &[])
@@ -129,7 +107,7 @@ impl FdtWriter {
         strings: &mut [u8],
         name: &[u8],
         val: &[u8],
-    ) -> Answered
+    ) -> Answered<()>
         ensures { (phandles : List ℕ) → Called (property_string name.now val.now) (desk_of self.0 blob.old strings.old phandles) result.answer (desk_of result.writer.0 blob.new strings.new phandles) }
     {
         self.property_string_list(blob, strings, name, val, &[val.len()])
@@ -144,10 +122,10 @@ impl FdtWriter {
         name: &[u8],
         values: &[u8],
         lengths: &[usize],
-    ) -> Answered
+    ) -> Answered<()>
         ensures { (phandles : List ℕ) → Called (property_string_list name.now values.now lengths.now) (desk_of self.0 blob.old strings.old phandles) result.answer (desk_of result.writer.0 blob.new strings.new phandles) }
     {
-        wrapped(fdt_property_kinds::write_texts(self.0, blob, strings, name, values, lengths))
+        fdt_property_kinds::write_texts(self.0, blob, strings, name, values, lengths).into()
     }
 
     // Writes a property whose value is one number of 4 bytes.
@@ -158,7 +136,7 @@ impl FdtWriter {
         strings: &mut [u8],
         name: &[u8],
         val: u32,
-    ) -> Answered
+    ) -> Answered<()>
         ensures { (phandles : List ℕ) → Called (property_u32 name.now val) (desk_of self.0 blob.old strings.old phandles) result.answer (desk_of result.writer.0 blob.new strings.new phandles) }
     {
         self.property_array_u32(blob, strings, name, &[val])
@@ -172,7 +150,7 @@ impl FdtWriter {
         strings: &mut [u8],
         name: &[u8],
         val: u64,
-    ) -> Answered
+    ) -> Answered<()>
         ensures { (phandles : List ℕ) → Called (property_u64 name.now val) (desk_of self.0 blob.old strings.old phandles) result.answer (desk_of result.writer.0 blob.new strings.new phandles) }
     {
         self.property_array_u64(blob, strings, name, &[val])
@@ -186,10 +164,10 @@ impl FdtWriter {
         strings: &mut [u8],
         name: &[u8],
         numbers: &[u32],
-    ) -> Answered
+    ) -> Answered<()>
         ensures { (phandles : List ℕ) → Called (property_array_u32 name.now numbers.now) (desk_of self.0 blob.old strings.old phandles) result.answer (desk_of result.writer.0 blob.new strings.new phandles) }
     {
-        wrapped(fdt_property_kinds::write_cells(self.0, blob, strings, name, numbers))
+        fdt_property_kinds::write_cells(self.0, blob, strings, name, numbers).into()
     }
 
     // Writes a property whose value is a list of numbers of 8 bytes each.
@@ -200,10 +178,10 @@ impl FdtWriter {
         strings: &mut [u8],
         name: &[u8],
         numbers: &[u64],
-    ) -> Answered
+    ) -> Answered<()>
         ensures { (phandles : List ℕ) → Called (property_array_u64 name.now numbers.now) (desk_of self.0 blob.old strings.old phandles) result.answer (desk_of result.writer.0 blob.new strings.new phandles) }
     {
-        wrapped(fdt_property_kinds::write_wide_cells(self.0, blob, strings, name, numbers))
+        fdt_property_kinds::write_wide_cells(self.0, blob, strings, name, numbers).into()
     }
 
     // Records a phandle in the table and writes the property `phandle`. Once 13 and 16 are passed the value stays recorded, even if the property is refused.
@@ -214,18 +192,18 @@ impl FdtWriter {
         strings: &mut [u8],
         phandles: &mut [u32],
         val: u32,
-    ) -> Answered
+    ) -> Answered<()>
         ensures { Called (property_phandle val) (desk_of self.0 blob.old strings.old phandles.old) result.answer (desk_of result.writer.0 blob.new strings.new phandles.new) }
     {
-        wrapped(fdt_phandles::property_phandle(self.0, blob, strings, phandles, val))
+        fdt_phandles::property_phandle(self.0, blob, strings, phandles, val).into()
     }
 
     // Finishes the blob: writes the last word, the strings and the header.
     // Refused 18, 17, 7, 14, in this order.
-    pub fn finish(self, blob: &mut [u8], strings: &[u8]) -> Answered
+    pub fn finish(self, blob: &mut [u8], strings: &[u8]) -> Answered<()>
         ensures { (phandles : List ℕ) → Called finish (desk_of self.0 blob.old strings.now phandles) result.answer (desk_of result.writer.0 blob.new strings.now phandles) }
     {
-        wrapped(fdt_finish::finish(self.0, blob, strings))
+        fdt_finish::finish(self.0, blob, strings).into()
     }
 
     // Shows the finished blob, which is the front of the lent buffer. If the writer is not finished, or does not fit the buffer, shows an empty part.

@@ -3,4 +3,4 @@ use Rattle.fdt_numbered.proofs.Made.{called_made}
 use Rattle.fdt_numbered.proofs.end_node.Goals as goal
 
 pub returns : goal.returns
-returns c strings phandles = called_made (c.end_node.ensures strings phandles) c.with_number.ensures
+returns c strings phandles = called_made (c.end_node.ensures strings phandles) c.into.ensures

@@ -3,4 +3,4 @@ use Rattle.fdt_numbered.proofs.Made.{called_made}
 use Rattle.fdt_numbered.proofs.new.Goals as goal
 
 pub returns : goal.returns
-returns c = called_made (c.new.ensures _) c.with_number.ensures
+returns c = called_made (c.new.ensures _) c.into.ensures

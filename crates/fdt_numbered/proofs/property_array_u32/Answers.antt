@@ -3,4 +3,4 @@ use Rattle.fdt_numbered.proofs.Made.{called_made}
 use Rattle.fdt_numbered.proofs.property_array_u32.Goals as goal
 
 pub returns : goal.returns
-returns c phandles = called_made (c.property_array_u32.ensures phandles) c.with_number.ensures
+returns c phandles = called_made (c.property_array_u32.ensures phandles) c.into.ensures

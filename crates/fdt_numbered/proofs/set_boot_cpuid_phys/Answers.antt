@@ -3,10 +3,4 @@ use Rattle.fdt_numbered.proofs.Made.{called_made}
 use Rattle.fdt_numbered.proofs.set_boot_cpuid_phys.Goals as goal
 
 pub returns : goal.returns
-returns c blob strings phandles = called_made (c.set_boot_cpuid_phys.ensures blob strings phandles) c.with_number.ensures
-
-pub set_boot_cpuid_phys-requires : goal.set_boot_cpuid_phys-requires
-set_boot_cpuid_phys-requires c = tt
-
-pub with_number-requires : goal.with_number-requires
-with_number-requires c = tt
+returns c blob strings phandles = called_made (c.set_boot_cpuid_phys.ensures blob strings phandles) c.into.ensures

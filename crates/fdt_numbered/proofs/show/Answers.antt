@@ -5,6 +5,3 @@ use Rattle.fdt_numbered.proofs.show.Goals as goal
 
 pub returns : goal.returns
 returns c strings phandles = ap length (c.show.ensures strings phandles).1
-
-pub show-requires : goal.show-requires
-show-requires c = tt

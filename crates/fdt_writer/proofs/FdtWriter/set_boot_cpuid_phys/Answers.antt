@@ -3,10 +3,4 @@ use Rattle.fdt_calls.proofs.Called.{set-boot_cpuid_phys_called}
 use Rattle.fdt_writer.proofs.FdtWriter.set_boot_cpuid_phys.Goals as goal
 
 pub returns : goal.returns
-returns c blob strings phandles = set-boot_cpuid_phys_called c.wrapped.ensures c.set_boot_cpuid_phys.ensures
-
-pub set_boot_cpuid_phys-requires : goal.set_boot_cpuid_phys-requires
-set_boot_cpuid_phys-requires c = tt
-
-pub wrapped-requires : goal.wrapped-requires
-wrapped-requires c = tt
+returns c blob strings phandles = set-boot_cpuid_phys_called c.into.ensures c.set_boot_cpuid_phys.ensures

@@ -4,6 +4,3 @@ use Rattle.fdt_writer.proofs.FdtWriter.show.Goals as goal
 
 pub returns : goal.returns
 returns c strings phandles = show_called c.show.ensures
-
-pub show-requires : goal.show-requires
-show-requires c = tt
