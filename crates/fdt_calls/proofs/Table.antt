@@ -1,13 +1,12 @@
 -- The refusal table: a call's answer is the first of its rows that holds, exactly, and no row has 3 or 4.
 use mathlib.Core.Path.{◌≡◌, refl, sym, subst, ◌∙◌}
 use mathlib.Core.Bool.{Bool, true, false, not, cond, ◌||◌}
-use Prim.Native.Nat.{ℕ}
 use lib.Dec.{eqb}
 use lib.ListN.{length}
 use Rattle.std.specs.Prelude.{Ok, Err}
 use Rattle.fdt_record.specs.declared.Error.{Error}
 use Rattle.fdt_record.specs.declared.Outcome.{Outcome}
-use Rattle.fdt_record.specs.Answers.{Answer, number_of, error_number, accepts}
+use Rattle.fdt_record.specs.Answers.{Answer, number_of, accepts}
 use Rattle.fdt_record.specs.Rows.{first}
 use Rattle.fdt_record.specs.Tests.{alone_rows, blob_rows, strings_rows}
 use Rattle.fdt_record.proofs.Rows.{all_errors, of_error, first-errors, Exactly, exactly, first-append}

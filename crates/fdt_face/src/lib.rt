@@ -11,16 +11,12 @@ use fdt_record::Error;
 use fdt_writer::FdtWriter;
 
 // As `FdtWriter::begin_node`, in place.
-pub fn begin_node(
-    w: &mut FdtWriter,
-    blob: &mut [u8],
-    name: &[u8],
-) -> Result<FdtWriterNode, Error>
+pub fn begin_node(w: &mut FdtWriter, blob: &mut [u8], name: &[u8]) -> Result<FdtWriterNode, Error>
     ensures { (strings phandles : List ℕ) → Called (begin_node name.now) (desk_of w.old.0 blob.old strings phandles) (answer_of result) (desk_of w.new.0 blob.new strings phandles) × IfOk result (λ handle. handle ≡ handle_of (desk_of w.old.0 blob.old strings phandles) name.now) }
 {
-    let r = w.begin_node(blob, name);
-    *w = r.writer;
-    r.answer
+    let begun = w.begin_node(blob, name);
+    *w = begun.writer;
+    begun.answer
 }
 
 // As `FdtWriter::end_node`, in place.

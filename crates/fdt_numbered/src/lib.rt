@@ -119,7 +119,8 @@ pub fn property_string_list(
 ) -> Numbered
     ensures { (phandles : List ℕ) → Made (property_string_list name.now values.now lengths.now) (desk_of w.0 blob.old strings.old phandles) result.number (desk_of result.writer.0 blob.new strings.new phandles) }
 {
-    w.property_string_list(blob, strings, name, values, lengths).into()
+    w.property_string_list(blob, strings, name, values, lengths)
+        .into()
 }
 
 // As `FdtWriter::property_u32`.

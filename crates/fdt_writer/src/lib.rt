@@ -9,6 +9,7 @@ ghost use Rattle.fdt_calls.specs.Called.{desk_of, Called, handle_of, shown_part}
 ghost use Rattle.fdt_writer.specs.Outcomes.{outcome_of};
 
 use fdt_nodes::FdtWriterNode;
+use fdt_property_kinds::Texts;
 use fdt_record::{Error, Outcome, Record};
 
 // A writer: the record of its buffers and of the calls so far. The buffers are lent to each call.
@@ -85,10 +86,16 @@ impl FdtWriter {
 
     // Writes a property of the open node: a name and the bytes of its value.
     // Refused 18, 17, 2, 1, 5, 11, 20, 15, 14, in this order.
-    pub fn property(self, blob: &mut [u8], strings: &mut [u8], name: &[u8], val: &[u8]) -> Answered<()>
+    pub fn property(
+        self,
+        blob: &mut [u8],
+        strings: &mut [u8],
+        name: &[u8],
+        val: &[u8],
+    ) -> Answered<()>
         ensures { (phandles : List ℕ) → Called (property name.now val.now) (desk_of self.0 blob.old strings.old phandles) result.answer (desk_of result.writer.0 blob.new strings.new phandles) }
     {
-        fdt_property_kinds::write_bytes(self.0, blob, strings, name, val).into()
+        fdt_property_kinds::write_property(self.0, blob, strings, name, val).into()
     }
 
     // Writes a property with an empty value.
@@ -125,7 +132,11 @@ impl FdtWriter {
     ) -> Answered<()>
         ensures { (phandles : List ℕ) → Called (property_string_list name.now values.now lengths.now) (desk_of self.0 blob.old strings.old phandles) result.answer (desk_of result.writer.0 blob.new strings.new phandles) }
     {
-        fdt_property_kinds::write_texts(self.0, blob, strings, name, values, lengths).into()
+        let texts = Texts {
+            joined: values,
+            lengths,
+        };
+        fdt_property_kinds::write_property(self.0, blob, strings, name, texts).into()
     }
 
     // Writes a property whose value is one number of 4 bytes.
@@ -167,7 +178,7 @@ impl FdtWriter {
     ) -> Answered<()>
         ensures { (phandles : List ℕ) → Called (property_array_u32 name.now numbers.now) (desk_of self.0 blob.old strings.old phandles) result.answer (desk_of result.writer.0 blob.new strings.new phandles) }
     {
-        fdt_property_kinds::write_cells(self.0, blob, strings, name, numbers).into()
+        fdt_property_kinds::write_property(self.0, blob, strings, name, numbers).into()
     }
 
     // Writes a property whose value is a list of numbers of 8 bytes each.
@@ -181,7 +192,7 @@ impl FdtWriter {
     ) -> Answered<()>
         ensures { (phandles : List ℕ) → Called (property_array_u64 name.now numbers.now) (desk_of self.0 blob.old strings.old phandles) result.answer (desk_of result.writer.0 blob.new strings.new phandles) }
     {
-        fdt_property_kinds::write_wide_cells(self.0, blob, strings, name, numbers).into()
+        fdt_property_kinds::write_property(self.0, blob, strings, name, numbers).into()
     }
 
     // Records a phandle in the table and writes the property `phandle`. Once 13 and 16 are passed the value stays recorded, even if the property is refused.

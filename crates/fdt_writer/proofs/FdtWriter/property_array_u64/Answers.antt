@@ -3,4 +3,4 @@ use Rattle.fdt_calls.proofs.Called.{property_array_u64_called}
 use Rattle.fdt_writer.proofs.FdtWriter.property_array_u64.Goals as goal
 
 pub returns : goal.returns
-returns c phandles = property_array_u64_called c.into.ensures c.write_wide_cells.ensures
+returns c phandles = property_array_u64_called c.into.ensures c.write_property.ensures

@@ -3,4 +3,4 @@ use Rattle.fdt_calls.proofs.Called.{property_string-list_called}
 use Rattle.fdt_writer.proofs.FdtWriter.property_string_list.Goals as goal
 
 pub returns : goal.returns
-returns c phandles = property_string-list_called c.into.ensures c.write_texts.ensures
+returns c phandles = property_string-list_called c.into.ensures c.write_property.ensures
