@@ -9,9 +9,12 @@ use text_lines::{numbers, spelling};
 // How many bytes of a name or a buffer are read.
 const MOST: usize = 4_096;
 
+// How many numbers of reservations are read.
+const PAIRS: usize = 8;
+
 // The bytes that word k spells.
 pub fn spelled(alloc: Global, words: &[u8], k: usize) -> Result<Vec<u8>, AllocError> {
-    spelling::word(words, k).take(MOST).collect(alloc)
+    spelling::bytes(alloc, words, k, MOST)
 }
 
 // Writes 0 for a test that is passed, and otherwise the number of the refusal.
@@ -36,7 +39,7 @@ fn answer(alloc: Global, out: &mut impl Write, asked: &[u8], given: &[u8]) -> io
         b"zero" => told(out, !fdt_names::has_zero(&name), 5),
         b"reservation" => reservation(out, numbers::number(asked, 1), numbers::number(asked, 2)),
         b"overlap" => {
-            let pairs = numbers::numbers(alloc, asked, 1, 8)?;
+            let pairs = numbers::numbers(alloc, asked, 1, PAIRS, |n| n)?;
             told(out, !fdt_reserve::check_overlapping(&pairs), 9)
         }
         b"find" => strings::find(out, &spelled(alloc, asked, 3)?, &name),

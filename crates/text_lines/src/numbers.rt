@@ -1,5 +1,5 @@
 // The numbers of a line. A word that is no number of at most 64 bits counts as 0.
-ghost use Rattle.std.specs.Prelude.{◌≤◌, vec_len, IfOk};
+ghost use Rattle.std.specs.Prelude.{◌≡◌, ◌≤◌, ◌%◌, ◌^◌, vec_len, IfOk};
 
 use std::alloc::{AllocError, Global};
 
@@ -14,8 +14,10 @@ pub fn number(line: &[u8], k: usize) -> u64 {
 }
 
 // A number without the bits above 32.
-pub fn low(n: u64) -> u32 {
-    (n & 0xffff_ffff) as u32
+pub fn low(n: u64) -> u32
+    ensures { result ≡ n % 2 ^ 32 }
+{
+    (n % 0x1_0000_0000) as u32
 }
 
 // Word k of a line as a number of 32 bits.
@@ -23,43 +25,20 @@ pub fn cell(line: &[u8], k: usize) -> u32 {
     low(number(line, k))
 }
 
-// The numbers of a line from word `first` on, at most so many.
-pub fn numbers(
+// The numbers of a line from word `first` on, at most so many, each as `of` converts it.
+pub fn numbers<T: Drop, F: Fn(u64) -> T + Drop>(
     alloc: Global,
     line: &[u8],
     first: usize,
     most: usize,
-) -> Result<Vec<u64>, AllocError>
+    of: F,
+) -> Result<Vec<T>, AllocError>
+    requires { F.IsAlwaysCallable of }
     ensures { IfOk result (λ v. vec_len v ≤ most) }
 {
     line.split(|b| *b == b' ')
         .skip(first)
         .take(most)
-        .map(value)
-        .collect(alloc)
-}
-
-// The same as numbers of 32 bits.
-pub fn cells(alloc: Global, line: &[u8], first: usize, most: usize) -> Result<Vec<u32>, AllocError>
-    ensures { IfOk result (λ v. vec_len v ≤ most) }
-{
-    numbers(alloc, line, first, most)?
-        .iter()
-        .map(|n| low(*n))
-        .collect(alloc)
-}
-
-// The same as lengths.
-pub fn lengths(
-    alloc: Global,
-    line: &[u8],
-    first: usize,
-    most: usize,
-) -> Result<Vec<usize>, AllocError>
-    ensures { IfOk result (λ v. vec_len v ≤ most) }
-{
-    numbers(alloc, line, first, most)?
-        .iter()
-        .map(|n| *n as usize)
+        .map(|word| of(value(word)))
         .collect(alloc)
 }

@@ -1,6 +1,8 @@
 // Bytes as a word spells them: a readable byte stands for itself, `~` for a byte 0, and `\xHH` for any byte.
-ghost use Rattle.std.specs.Prelude.{length};
+ghost use Rattle.std.specs.Prelude.{◌≤◌, length, vec_len, IfOk};
 ghost use Rattle.std.specs.Iterator.{at_most};
+
+use std::alloc::{AllocError, Global};
 
 // The part of a word whose bytes are still to come.
 #[derive(Drop)]
@@ -31,4 +33,11 @@ impl Iterator for Spelled<'_> {
 // The bytes that word k of a line spells.
 pub fn word(line: &[u8], k: usize) -> Spelled<'_> {
     Spelled(crate::word(line, k))
+}
+
+// The first of these bytes, at most so many.
+pub fn bytes(alloc: Global, line: &[u8], k: usize, most: usize) -> Result<Vec<u8>, AllocError>
+    ensures { IfOk result (λ v. vec_len v ≤ most) }
+{
+    word(line, k).take(most).collect(alloc)
 }
