@@ -76,7 +76,7 @@ impl Desk {
     }
 
     // Keeps the writer of an answer.
-    fn answered(&mut self, answered: Answered) -> Result<(), Error> {
+    fn answered<T: Copy>(&mut self, answered: Answered<T>) -> Result<T, Error> {
         self.writer = answered.writer;
         self.late = true;
         answered.answer
@@ -110,10 +110,7 @@ impl Desk {
     // Begins a node.
     fn begin(&mut self, name: &[u8]) -> Result<(), Error> {
         let begun = self.writer.begin_node(&mut self.blob, name);
-        self.writer = begun.writer;
-        self.late = true;
-        begun.answer?;
-        Ok(())
+        self.answered(begun).map(|_| ())
     }
 
     // Ends the node that was begun last: its handle is the depth.
