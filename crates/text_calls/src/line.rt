@@ -1,11 +1,10 @@
 // A line of a list: its call with what it is given.
 pub use crate::values::Strings;
-use crate::values::{Values, byte, cell, first_word};
+use crate::values::{Values, byte, cell, first_word, wide_cell};
 use crate::verbs::{Kind, Verb};
 use std::alloc::{AllocError, AllocFailed, Global};
 use std::fmt;
 use std::fmt::{Display, Formatter, Write};
-use text_words::number;
 
 // A call with what it is given.
 #[derive(Drop)]
@@ -144,7 +143,7 @@ impl<'a> Values<'a> {
 
     // A reservation: its address and its size.
     fn reservation(self, alloc: Global) -> Result<Call<'a>, Wrong> {
-        match self.each(alloc, number)?.as_slice() {
+        match self.each(alloc, wide_cell)?.as_slice() {
             [address, size] => Ok(Call::Reserve {
                 address: *address,
                 size: *size,
@@ -170,7 +169,7 @@ impl<'a> Values<'a> {
             }
             Kind::Bytes => Ok(Value::Bytes(self.some(alloc, byte)?)),
             Kind::U32 => Ok(Value::Cells(self.some(alloc, cell)?)),
-            Kind::U64 => Ok(Value::WideCells(self.some(alloc, number)?)),
+            Kind::U64 => Ok(Value::WideCells(self.some(alloc, wide_cell)?)),
             Kind::String | Kind::Strings => self.string_value(alloc, kind),
         }
     }

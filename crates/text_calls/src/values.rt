@@ -162,6 +162,11 @@ pub(crate) fn first_word(text: &[u8]) -> (&[u8], &[u8]) {
     text.split_at(end.unwrap_or(text.len()))
 }
 
+// A number of 8 bytes.
+pub(crate) fn wide_cell(word: &[u8]) -> Option<u64> {
+    number(word)
+}
+
 // A number of 4 bytes.
 pub(crate) fn cell(word: &[u8]) -> Option<u32> {
     u32::try_from(number(word)?).ok()
