@@ -6,7 +6,16 @@ ghost use Rattle.fdt_calls.specs.Calls.{new, new_with_mem_reserv, set_boot_cpuid
 ghost use Rattle.fdt_calls.specs.Called.{desk_of};
 ghost use Rattle.fdt_calls.specs.Made.{Made, handle_number, shown_length};
 
+use fdt_numbered::Numbered;
 use fdt_writer::FdtWriter;
+
+// Stores the writer that a call leaves, and returns the number of its answer: C knows no `Result`.
+fn stored(r: Numbered, w: &mut FdtWriter) -> u32
+    ensures { (result ≡ r.number) × (w.new ≡ r.writer) }
+{
+    *w = r.writer;
+    r.number
+}
 
 // As `FdtWriter::new`, in place. The lent writer may have any fields.
 #[unsafe(no_mangle)]
@@ -18,9 +27,7 @@ pub extern "C" fn geirovund_new(
 ) -> u32
     ensures { Made new (desk_of w.old.0 blob.old strings.now phandles.now) result (desk_of w.new.0 blob.new strings.now phandles.now) }
 {
-    let r = fdt_numbered::new(*w, blob, strings, phandles);
-    *w = r.writer;
-    r.number
+    stored(fdt_numbered::new(*w, blob, strings, phandles), w)
 }
 
 // As `FdtWriter::new_with_mem_reserv`, in place. The lent writer may have any fields.
@@ -34,9 +41,10 @@ pub extern "C" fn geirovund_new_with_mem_reserv(
 ) -> u32
     ensures { Made (new_with_mem_reserv mem_reservations.now) (desk_of w.old.0 blob.old strings.now phandles.now) result (desk_of w.new.0 blob.new strings.now phandles.now) }
 {
-    let r = fdt_numbered::new_with_mem_reserv(*w, blob, strings, phandles, mem_reservations);
-    *w = r.writer;
-    r.number
+    stored(
+        fdt_numbered::new_with_mem_reserv(*w, blob, strings, phandles, mem_reservations),
+        w,
+    )
 }
 
 // As `FdtWriter::set_boot_cpuid_phys`, in place.
@@ -44,9 +52,7 @@ pub extern "C" fn geirovund_new_with_mem_reserv(
 pub extern "C" fn geirovund_set_boot_cpuid_phys(w: &mut FdtWriter, boot_cpuid_phys: u32) -> u32
     ensures { (blob strings phandles : List ℕ) → Made (set_boot_cpuid_phys boot_cpuid_phys) (desk_of w.old.0 blob strings phandles) result (desk_of w.new.0 blob strings phandles) }
 {
-    let r = fdt_numbered::set_boot_cpuid_phys(*w, boot_cpuid_phys);
-    *w = r.writer;
-    r.number
+    stored(fdt_numbered::set_boot_cpuid_phys(*w, boot_cpuid_phys), w)
 }
 
 // As `FdtWriter::begin_node`, in place. Stores the handle in `node`; 0 if the call is refused.
@@ -59,9 +65,7 @@ pub extern "C" fn geirovund_begin_node(
 ) -> u32
     ensures { (strings phandles : List ℕ) → Made (begin_node name.now) (desk_of w.old.0 blob.old strings phandles) result (desk_of w.new.0 blob.new strings phandles) × (node.new ≡ handle_number (desk_of w.old.0 blob.old strings phandles) name.now) }
 {
-    let r = fdt_numbered::begin_node(*w, blob, name, node);
-    *w = r.writer;
-    r.number
+    stored(fdt_numbered::begin_node(*w, blob, name, node), w)
 }
 
 // As `FdtWriter::end_node`, in place.
@@ -69,9 +73,7 @@ pub extern "C" fn geirovund_begin_node(
 pub extern "C" fn geirovund_end_node(w: &mut FdtWriter, blob: &mut [u8], node: usize) -> u32
     ensures { (strings phandles : List ℕ) → Made (end_node node) (desk_of w.old.0 blob.old strings phandles) result (desk_of w.new.0 blob.new strings phandles) }
 {
-    let r = fdt_numbered::end_node(*w, blob, node);
-    *w = r.writer;
-    r.number
+    stored(fdt_numbered::end_node(*w, blob, node), w)
 }
 
 // As `FdtWriter::property`, in place.
@@ -85,9 +87,7 @@ pub extern "C" fn geirovund_property(
 ) -> u32
     ensures { (phandles : List ℕ) → Made (property name.now val.now) (desk_of w.old.0 blob.old strings.old phandles) result (desk_of w.new.0 blob.new strings.new phandles) }
 {
-    let r = fdt_numbered::property(*w, blob, strings, name, val);
-    *w = r.writer;
-    r.number
+    stored(fdt_numbered::property(*w, blob, strings, name, val), w)
 }
 
 // As `FdtWriter::property_null`, in place.
@@ -100,9 +100,7 @@ pub extern "C" fn geirovund_property_null(
 ) -> u32
     ensures { (phandles : List ℕ) → Made (property_null name.now) (desk_of w.old.0 blob.old strings.old phandles) result (desk_of w.new.0 blob.new strings.new phandles) }
 {
-    let r = fdt_numbered::property_null(*w, blob, strings, name);
-    *w = r.writer;
-    r.number
+    stored(fdt_numbered::property_null(*w, blob, strings, name), w)
 }
 
 // As `FdtWriter::property_string`, in place.
@@ -116,9 +114,10 @@ pub extern "C" fn geirovund_property_string(
 ) -> u32
     ensures { (phandles : List ℕ) → Made (property_string name.now val.now) (desk_of w.old.0 blob.old strings.old phandles) result (desk_of w.new.0 blob.new strings.new phandles) }
 {
-    let r = fdt_numbered::property_string(*w, blob, strings, name, val);
-    *w = r.writer;
-    r.number
+    stored(
+        fdt_numbered::property_string(*w, blob, strings, name, val),
+        w,
+    )
 }
 
 // As `FdtWriter::property_string_list`, in place.
@@ -133,9 +132,10 @@ pub extern "C" fn geirovund_property_string_list(
 ) -> u32
     ensures { (phandles : List ℕ) → Made (property_string_list name.now values.now lengths.now) (desk_of w.old.0 blob.old strings.old phandles) result (desk_of w.new.0 blob.new strings.new phandles) }
 {
-    let r = fdt_numbered::property_string_list(*w, blob, strings, name, values, lengths);
-    *w = r.writer;
-    r.number
+    stored(
+        fdt_numbered::property_string_list(*w, blob, strings, name, values, lengths),
+        w,
+    )
 }
 
 // As `FdtWriter::property_u32`, in place.
@@ -149,9 +149,7 @@ pub extern "C" fn geirovund_property_u32(
 ) -> u32
     ensures { (phandles : List ℕ) → Made (property_u32 name.now val) (desk_of w.old.0 blob.old strings.old phandles) result (desk_of w.new.0 blob.new strings.new phandles) }
 {
-    let r = fdt_numbered::property_u32(*w, blob, strings, name, val);
-    *w = r.writer;
-    r.number
+    stored(fdt_numbered::property_u32(*w, blob, strings, name, val), w)
 }
 
 // As `FdtWriter::property_u64`, in place.
@@ -165,9 +163,7 @@ pub extern "C" fn geirovund_property_u64(
 ) -> u32
     ensures { (phandles : List ℕ) → Made (property_u64 name.now val) (desk_of w.old.0 blob.old strings.old phandles) result (desk_of w.new.0 blob.new strings.new phandles) }
 {
-    let r = fdt_numbered::property_u64(*w, blob, strings, name, val);
-    *w = r.writer;
-    r.number
+    stored(fdt_numbered::property_u64(*w, blob, strings, name, val), w)
 }
 
 // As `FdtWriter::property_array_u32`, in place.
@@ -181,9 +177,10 @@ pub extern "C" fn geirovund_property_array_u32(
 ) -> u32
     ensures { (phandles : List ℕ) → Made (property_array_u32 name.now numbers.now) (desk_of w.old.0 blob.old strings.old phandles) result (desk_of w.new.0 blob.new strings.new phandles) }
 {
-    let r = fdt_numbered::property_array_u32(*w, blob, strings, name, numbers);
-    *w = r.writer;
-    r.number
+    stored(
+        fdt_numbered::property_array_u32(*w, blob, strings, name, numbers),
+        w,
+    )
 }
 
 // As `FdtWriter::property_array_u64`, in place.
@@ -197,9 +194,10 @@ pub extern "C" fn geirovund_property_array_u64(
 ) -> u32
     ensures { (phandles : List ℕ) → Made (property_array_u64 name.now numbers.now) (desk_of w.old.0 blob.old strings.old phandles) result (desk_of w.new.0 blob.new strings.new phandles) }
 {
-    let r = fdt_numbered::property_array_u64(*w, blob, strings, name, numbers);
-    *w = r.writer;
-    r.number
+    stored(
+        fdt_numbered::property_array_u64(*w, blob, strings, name, numbers),
+        w,
+    )
 }
 
 // As `FdtWriter::property_phandle`, in place.
@@ -213,9 +211,10 @@ pub extern "C" fn geirovund_property_phandle(
 ) -> u32
     ensures { Made (property_phandle val) (desk_of w.old.0 blob.old strings.old phandles.old) result (desk_of w.new.0 blob.new strings.new phandles.new) }
 {
-    let r = fdt_numbered::property_phandle(*w, blob, strings, phandles, val);
-    *w = r.writer;
-    r.number
+    stored(
+        fdt_numbered::property_phandle(*w, blob, strings, phandles, val),
+        w,
+    )
 }
 
 // As `FdtWriter::finish`, in place.
@@ -223,9 +222,7 @@ pub extern "C" fn geirovund_property_phandle(
 pub extern "C" fn geirovund_finish(w: &mut FdtWriter, blob: &mut [u8], strings: &[u8]) -> u32
     ensures { (phandles : List ℕ) → Made finish (desk_of w.old.0 blob.old strings.now phandles) result (desk_of w.new.0 blob.new strings.now phandles) }
 {
-    let r = fdt_numbered::finish(*w, blob, strings);
-    *w = r.writer;
-    r.number
+    stored(fdt_numbered::finish(*w, blob, strings), w)
 }
 
 // The length of the finished blob, which is the front of the lent buffer; 0 if there is none.
