@@ -31,8 +31,7 @@ use Rattle.fdt_record.proofs.Answers.{accepts-done, upon-same}
 use Rattle.fdt_record.proofs.Fits.{usable-within, FitBlob, FitStrings, fit_phandles}
 use Rattle.fdt_record.proofs.Rows.{ByName, by_name, exactly, append-same}
 use Rattle.fdt_properties.specs.Property.{place_of, is_known, place_offset, is_repeated, stored, written, state_rows, name_rows, place_rows, property_rows, property_answer, property_record, property, property_blob, property_strings}
-use Rattle.fdt_properties.proofs.Property.{PropertyFits, property-fits}
-use Rattle.fdt_properties.proofs.Steps.{first_fits}
+use Rattle.fdt_properties.proofs.Property.{first_fits, PropertyFits, property-fits}
 use Rattle.fdt_header.specs.Header.{header_size, header_bytes}
 use Rattle.fdt_format.specs.Tokens.{begin_bytes, property_bytes, end_bytes, final_bytes}
 use Rattle.fdt_header.proofs.HeaderBytes.{length-header}
@@ -180,7 +179,7 @@ module _ (xs ys : List ℕ) (same : SameUsable blob_ceiling xs ys) where
       same-property =
           append-same (first_rows (length xs) ss) (first_rows (length ys) ts) (place_rows w xs ss name v) (place_rows w ys ts name v)
           same-state
-          (λ e. let f = first_fits w xs ss name (record { misfit = misfit_value v; zero = zero_value v; len = 0 }) (accepts-done _ e) in same_places f.blob_fits f.names)
+          (λ e. let f = first_fits w (length xs) ss name (misfit_value v) (zero_value v) (accepts-done _ e) in same_places f.blob f.strings)
 
       -- equal if the call is accepted, so equal
       accepted-same : {A : Type 0} (x x' y : A) → (accepts (property_answer w xs ss name v) ≡ true → x ≡ x') → upon (property_answer w xs ss name v) x y ≡ upon (property_answer w ys ts name v) x' y

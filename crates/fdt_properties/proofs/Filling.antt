@@ -1,11 +1,9 @@
 -- A property in two steps: a placeholder that is filled with the value's bytes is the property's bytes, spliced in.
 use mathlib.Core.Path.{◌≡◌, refl, sym, ap, ◌∙◌}
-use mathlib.Core.Bool.{Bool, false, not}
 use mathlib.Core.List.{List, [], ◌∷◌, ◌++◌}
-use Prim.Native.Nat.{ℕ, ◌+◌, ◌-◌, ◌*◌, ◌≤◌}
+use Prim.Native.Nat.{ℕ, ◌+◌, ◌-◌, ◌≤◌}
 use native.Mathlib.Omega.{arith}
-use lib.Dec.{eqb}
-use Rattle.std.specs.Prelude.{Ok, Err}
+use Rattle.std.specs.Prelude.{Result, Ok, Err}
 use lib.ListN.{length}
 use Rattle.fdt_bytes.specs.BigEndian.{cell_bytes}
 use Rattle.fdt_bytes.specs.Padding.{padding, round_up, zeros, padded}
@@ -14,17 +12,15 @@ use Rattle.fdt_bytes.proofs.BigEndian.{length-cells}
 use Rattle.fdt_bytes.proofs.Padding.{length-zeros}
 use Rattle.fdt_bytes.proofs.Splice.{length-splice, splice-splice, splice_under}
 use Rattle.fdt_format.specs.Tokens.{property_token, property_bytes}
-use Rattle.fdt_values.specs.Value.{Value, raw, cells, texts, value_bytes, sum, misfit_value, zero_value}
-use Rattle.fdt_values.proofs.Values.{fits-texts, length-texts}
-use Rattle.fdt_names.specs.Names.{has_zero}
+use Rattle.fdt_values.specs.Value.{Value, value_bytes}
 use Rattle.fdt_record.specs.declared.Error.{Error}
 use Rattle.fdt_record.specs.declared.Record.{Record}
 use Rattle.fdt_record.specs.Answers.{Done}
 use Rattle.fdt_record.proofs.Answers.{upon-done, upon-err}
-use Rattle.fdt_properties.specs.declared.Measured.{Measured}
 use Rattle.fdt_properties.specs.declared.Tested.{Tested}
-use Rattle.fdt_properties.specs.Placeholder.{Measures, FrameFits, framed, Passed, Unfilled}
+use Rattle.fdt_properties.specs.Placeholder.{measure, FrameFits, framed, Passed, Unfilled}
 use Rattle.fdt_properties.specs.Property.{place_offset, stored, written, property_record, property_answer, property, property_blob, property_strings, PropertyOutcome}
+use Rattle.fdt_properties.proofs.Steps.{measured}
 
 module _ (used offset len end : ℕ) (value blob : List ℕ) (sized : len ≡ length value) (f : FrameFits used offset len end (length blob)) where
   words : List ℕ
@@ -69,43 +65,24 @@ module _ {w : Record} {blob strings name : List ℕ} {v : Value} where
   }
 
   -- accepted: only the value is left to be written
-  pub placed : {m : Measured} {r : Tested} → Passed w blob strings name m r → Measures m v → {s b : List ℕ} → s ≡ stored (Ok r.place) name strings → b ≡ framed w.blob_used (place_offset (Ok r.place)) m.len r.after.blob_used blob → Unfilled w blob strings name v (record { at = w.blob_used + 12; after = r.after }) b s
+  pub placed : {value : Result ℕ Error} {r : Tested} → Passed w blob strings name value r → value ≡ measure v → {s b : List ℕ} → s ≡ stored (Ok r.place) name strings → b ≡ framed w.blob_used (place_offset (Ok r.place)) r.len r.after.blob_used blob → Unfilled w blob strings name v (record { at = w.blob_used + 12; after = r.after }) b s
   unfolding property property_blob property_strings written
-  placed {m} {r} q k {s} {b} es eb =
+  placed {r = r} q k {s} {b} es eb =
       let used = w.blob_used in
       let offset = place_offset (Ok r.place) in
       let t = q.accepted v k in
-      let sized = k.len_is t.in_order in
+      let m = measured v (sym k ∙ q.len_is) in
       record {
-        in_order = t.in_order;
-        fits = rw eb (value_fits used offset m.len r.after.blob_used (value_bytes v) blob sized q.frame_fits);
+        in_order = m.in_order;
+        fits = rw eb (value_fits used offset r.len r.after.blob_used (value_bytes v) blob m.len_is q.frame_fits);
         filled =
             record {
               result = rw t.answered (ap (λ (x : Record). record { answer = Done; after = x }) (t.after_is ∙ sym (upon-done Done (property_record w strings name v) w refl)));
               bytes =
                   ap (splice (used + 12) (value_bytes v)) eb
-                  ∙ filling used offset m.len r.after.blob_used (value_bytes v) blob sized q.frame_fits
+                  ∙ filling used offset r.len r.after.blob_used (value_bytes v) blob m.len_is q.frame_fits
                   ∙ ap (λ p. splice used (property_bytes (place_offset p) (value_bytes v)) blob) (sym q.place_is)
                   ∙ sym (upon-done _ _ _ t.answered);
               names = es ∙ ap (λ p. stored p name strings) (sym q.place_is) ∙ sym (upon-done _ _ _ t.answered);
             };
       }
-
--- Each kind of value: what the tests ask of it, and that it fits where it goes.
-pub of_bytes : (bytes : List ℕ) → Measures (record { misfit = false; zero = false; len = length bytes }) (raw bytes)
-unfolding misfit_value zero_value value_bytes
-of_bytes bytes = record { misfit_is = refl; zero_is = refl; len_is = λ h. refl }
-
-pub of_cells : (width : ℕ) (numbers : List ℕ) → Measures (record { misfit = false; zero = false; len = width * length numbers }) (cells width numbers)
-unfolding misfit_value zero_value value_bytes
-of_cells width numbers = record { misfit_is = refl; zero_is = refl; len_is = λ h. sym (length-cells width numbers) }
-
-pub of_texts :
-    (joined lengths : List ℕ) {fits has : Bool} → fits ≡ eqb (sum lengths) (length joined) → has ≡ has_zero joined →
-    Measures (record { misfit = not fits; zero = has; len = length joined + length lengths }) (texts joined lengths)
-unfolding misfit_value zero_value value_bytes
-of_texts joined lengths e z = record {
-  misfit_is = ap not e;
-  zero_is = z;
-  len_is = λ h. sym (length-texts joined lengths (fits-texts joined lengths h));
-}

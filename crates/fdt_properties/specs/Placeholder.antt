@@ -13,16 +13,13 @@ use Rattle.fdt_record.specs.declared.Error.{Error}
 use Rattle.fdt_record.specs.declared.Error.TheVariants as error
 use Rattle.fdt_record.specs.declared.Record.{Record}
 use Rattle.fdt_record.specs.Answers.{Done}
-use Rattle.fdt_properties.specs.declared.Measured.{Measured}
 use Rattle.fdt_properties.specs.declared.Tested.{Tested}
 use Rattle.fdt_properties.specs.declared.Placed.{Placed}
 use Rattle.fdt_properties.specs.Property.{place_of, place_offset, added, property_record, property_answer, PropertyOutcome}
 
--- the figures of a value; the length counts only if the lengths of its strings are right
-pub record Measures (m : Measured) (v : Value) : Type 0 where
-  pub misfit_is : m.misfit ≡ misfit_value v
-  pub zero_is : m.zero ≡ zero_value v
-  pub len_is : misfit_value v ≡ false → m.len ≡ length (value_bytes v)
+-- what the tests of a value find: 17 or 5, or how many bytes it takes
+unfoldable pub measure : Value → Result ℕ Error
+measure v = cond (misfit_value v) (Err error.Misfit) (cond (zero_value v) (Err error.InvalidString) (Ok (length (value_bytes v))))
 
 -- the name's place once 15 and 20 are passed
 abbrev pub tested_place : Result Interned StringRoom → Bool → Result Interned Error
@@ -46,23 +43,23 @@ framed used offset len end blob =
     splice (used + 12 + len) (zeros (end - (used + 12 + len)))
     (splice used (cell_bytes 4 (property_token ∷ len ∷ offset ∷ [])) blob)
 
--- what the passed tests say of every value with these figures
+-- what the passed tests say of every value that takes so many bytes
 pub record Accepted (w : Record) (blob strings name : List ℕ) (after : Record) (v : Value) : Type 0 where
-  pub in_order : misfit_value v ≡ false
   pub answered : property_answer w blob strings name v ≡ Done
   pub after_is : after ≡ property_record w strings name v
 
 -- what holds once the tests are passed
-pub record Passed (w : Record) (blob strings name : List ℕ) (m : Measured) (r : Tested) : Type 0 where
+pub record Passed (w : Record) (blob strings name : List ℕ) (value : Result ℕ Error) (r : Tested) : Type 0 where
+  pub len_is : value ≡ Ok r.len
   pub place_is : place_of w strings name ≡ Ok r.place
   pub name_fits : NameFits (Ok r.place) name strings
-  pub frame_fits : FrameFits w.blob_used (place_offset (Ok r.place)) m.len r.after.blob_used (length blob)
-  pub accepted : (v : Value) → Measures m v → Accepted w blob strings name r.after v
+  pub frame_fits : FrameFits w.blob_used (place_offset (Ok r.place)) r.len r.after.blob_used (length blob)
+  pub accepted : (v : Value) → value ≡ measure v → Accepted w blob strings name r.after v
 
--- the tests of a property: passed, or refused with the error that every value with these figures gets
-abbrev pub PropertyTested : Record → (blob strings name : List ℕ) → Measured → Result Tested Error → Type 0
-PropertyTested w blob strings name m (Ok r) = Passed w blob strings name m r
-PropertyTested w blob strings name m (Err e) = (v : Value) → Measures m v → property_answer w blob strings name v ≡ Err e
+-- the tests of a property: passed, or refused with the error that every value of which its own tests find this gets
+abbrev pub PropertyTested : Record → (blob strings name : List ℕ) → Result ℕ Error → Result Tested Error → Type 0
+PropertyTested w blob strings name value (Ok r) = Passed w blob strings name value r
+PropertyTested w blob strings name value (Err e) = (v : Value) → value ≡ measure v → property_answer w blob strings name v ≡ Err e
 
 -- an accepted property whose value is missing: with the value at its place it is the whole property
 pub record Unfilled (w : Record) (blob strings name : List ℕ) (v : Value) (r : Placed) (blobAfter stringsAfter : List ℕ) : Type 0 where

@@ -1,30 +1,24 @@
 // A property, except its value: makes its tests, stores its name, and writes its words and padding.
 #![tactic(auto)]
 
-ghost use Rattle.std.specs.Prelude.{◌≡◌, ◌++◌, ◌+◌, ◌≤◌, ◌<◌, ◌^◌, length};
+ghost use Rattle.std.specs.Prelude.{◌≡◌, ◌∷◌, ◌+◌, ◌≤◌, ◌<◌, ◌^◌, eqb, length, IfOk};
 ghost use Rattle.fdt_bytes.specs.Padding.{round_up};
 ghost use Rattle.fdt_record.specs.Fields.{with_used_blob, with_used_strings};
-ghost use Rattle.fdt_record.specs.Rows.{first};
+ghost use Rattle.fdt_record.specs.declared.Error.TheVariants.{PropertyAfterEndNode, PropertyBeforeBeginNode};
+ghost use Rattle.fdt_record.specs.Rows.{◌⇒◌, first};
 ghost use Rattle.fdt_values.specs.Value.{Value};
-ghost use Rattle.fdt_properties.specs.Placeholder.{Measures, tested_place, PropertyTested, NameFits, FrameFits, framed, Placeholder};
-ghost use Rattle.fdt_properties.specs.Property.{place_of, place_offset, is_repeated, added, stored, state_rows, name_rows};
+ghost use Rattle.fdt_properties.specs.Placeholder.{measure, tested_place, PropertyTested, NameFits, FrameFits, framed, Placeholder};
+ghost use Rattle.fdt_properties.specs.Property.{place_of, place_offset, is_repeated, added, stored, name_rows};
 
 use fdt_format::FDT_PROP;
 use fdt_record::{Error, Record};
 use fdt_strings::Interned;
 
-// What the tests ask of a value: whether the lengths of its strings do not sum to its bytes, whether a string has a byte 0, and how many bytes it takes.
-#[derive(Clone, Copy)]
-pub struct Measured {
-    pub misfit: bool,
-    pub zero: bool,
-    pub len: usize,
-}
-
-// What the tests find: the name's place, and the record after the call.
+// What the tests find: the name's place, how many bytes the value takes, and the record after the call.
 #[derive(Clone, Copy)]
 struct Tested {
     place: Interned,
+    len: usize,
     after: Record,
 }
 
@@ -35,11 +29,17 @@ pub struct Placed {
     pub after: Record,
 }
 
-// The tests of the name: 5, 11.
+// The tests of the open node and of the name: 2, 1, 5, 11.
 #[tactic(auto, unfolding(fdt_record::specs::Rows::first, crate::specs::Property::name_rows))]
-fn name_tests(name: &[u8]) -> Result<(), Error>
-    ensures { result ≡ first (name_rows name.now) }
+fn name_tests(w: Record, name: &[u8]) -> Result<(), Error>
+    ensures { result ≡ first ((w.node_ended ⇒ PropertyAfterEndNode) ∷ (eqb w.node_depth 0 ⇒ PropertyBeforeBeginNode) ∷ name_rows name.now) }
 {
+    if w.node_ended {
+        return Err(Error::PropertyAfterEndNode);
+    }
+    if w.node_depth == 0 {
+        return Err(Error::PropertyBeforeBeginNode);
+    }
     if fdt_names::has_zero(name) {
         return Err(Error::InvalidString);
     }
@@ -47,33 +47,6 @@ fn name_tests(name: &[u8]) -> Result<(), Error>
         return Err(Error::InvalidPropertyName);
     }
     Ok(())
-}
-
-// The tests that do not search the strings: 18, 17, 5 for a value, 2, 1, 5, 11.
-#[tactic(auto, unfolding(fdt_record::specs::Rows::first, fdt_record::specs::Tests::alone_rows, fdt_record::specs::Tests::blob_rows, fdt_record::specs::Tests::strings_rows, crate::specs::Property::state_rows))]
-fn first_tests(
-    w: Record,
-    lent: usize,
-    strings: &[u8],
-    name: &[u8],
-    value: Measured,
-) -> Result<(), Error>
-    ensures { result ≡ first (state_rows w lent strings.now value.misfit value.zero ++ name_rows name.now) }
-{
-    w.strings_tests(lent, strings)?;
-    if value.misfit {
-        return Err(Error::Misfit);
-    }
-    if value.zero {
-        return Err(Error::InvalidString);
-    }
-    if w.node_ended {
-        return Err(Error::PropertyAfterEndNode);
-    }
-    if w.node_depth == 0 {
-        return Err(Error::PropertyBeforeBeginNode);
-    }
-    name_tests(name)
 }
 
 // The place of the name, or its refusal: 20 if the open node already has a property of it, 15 if it is new and has no room. A name
@@ -130,24 +103,26 @@ fn after_property(w: Record, len: usize, added: usize) -> Record
     }
 }
 
-// All tests of a property: those that do not search the strings, of the name's place, and 14.
+// All tests of a property, in their order. `value` is what the value's own tests find: 17 or 5, or how many bytes it takes.
 fn property_tests(
     w: Record,
     blob: &[u8],
     strings: &[u8],
     name: &[u8],
-    value: Measured,
+    value: Result<usize, Error>,
 ) -> Result<Tested, Error>
-    requires { value.len < 2 ^ 63 + 2 ^ 62 }
+    requires { IfOk value (λ len. len < 2 ^ 63 + 2 ^ 62) }
     ensures { PropertyTested w blob.now strings.now name.now value result }
 {
-    first_tests(w, blob.len(), strings, name, value)?;
+    w.strings_tests(blob.len(), strings)?;
+    let len = value?;
+    name_tests(w, name)?;
     let place = place_of(w, blob, strings, name)?;
-    let after = after_property(w, value.len, added_by(place, name));
+    let after = after_property(w, len, added_by(place, name));
     if after.overfull() {
         return Err(Error::BlobRoom);
     }
-    Ok(Tested { place, after })
+    Ok(Tested { place, len, after })
 }
 
 // Stores a new name, with its 0.
@@ -173,22 +148,23 @@ fn put_frame(blob: &mut [u8], used: usize, offset: usize, len: usize, end: usize
 }
 
 // Makes all tests of a property and, if they are passed, writes everything except its value: its name, words and padding.
+// `value` is what the value's own tests find.
 pub fn property_placeholder(
     w: Record,
     blob: &mut [u8],
     strings: &mut [u8],
     name: &[u8],
-    value: Measured,
+    value: Result<usize, Error>,
 ) -> Result<Placed, Error>
-    requires { value.len < 2 ^ 63 + 2 ^ 62 }
-    ensures { (v : Value) → Measures value v → Placeholder w blob.old strings.old name.now v result blob.new strings.new }
+    requires { IfOk value (λ len. len < 2 ^ 63 + 2 ^ 62) }
+    ensures { (v : Value) → value ≡ measure v → Placeholder w blob.old strings.old name.now v result blob.new strings.new }
 {
     let tested = property_tests(w, blob, strings, name, value)?;
     let after = tested.after;
     let used = w.blob_used;
     let offset = offset_of(tested.place);
     store_name(strings, tested.place, name);
-    put_frame(blob, used, offset, value.len, after.blob_used);
+    put_frame(blob, used, offset, tested.len, after.blob_used);
     Ok(Placed {
         at: used + 12,
         after,

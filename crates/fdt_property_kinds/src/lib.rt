@@ -1,24 +1,24 @@
 // Writes a property of any kind of value: a placeholder, filled with bytes, numbers or strings.
 #![tactic(auto)]
 
-ghost use Rattle.std.specs.Prelude.{◌≡◌, false, ◌+◌, ◌≤◌, ◌<◌, ◌^◌, length};
+ghost use Rattle.std.specs.Prelude.{◌≡◌, false, ◌+◌, ◌≤◌, ◌<◌, ◌^◌, length, IfOk};
 ghost use Rattle.fdt_bytes.specs.Splice.{splice};
 ghost use Rattle.fdt_values.specs.Value.{Value, raw, cells, texts, value_bytes, misfit_value};
-ghost use Rattle.fdt_properties.specs.Placeholder.{Measures};
+ghost use Rattle.fdt_properties.specs.Placeholder.{measure};
 ghost use Rattle.fdt_properties.specs.Property.{PropertyOutcome};
 
-use fdt_properties::{Measured, property_placeholder};
-use fdt_record::{Outcome, Record};
+use fdt_properties::property_placeholder;
+use fdt_record::{Error, Outcome, Record};
 
 // What can be the value of a property.
 pub trait PropertyValue: Copy {
     // The value.
     ghost value: { Self → Value };
 
-    // What the tests ask of it.
-    fn measured(&self) -> Measured
-        ensures measures { Measures result (value self.now) }
-        ensures small { result.len < 2 ^ 63 + 2 ^ 62 };
+    // How many bytes it takes, or what its own tests refuse: 17, 5.
+    fn measured(&self) -> Result<usize, Error>
+        ensures measures { result ≡ measure (value self.now) }
+        ensures small { IfOk result (λ len. len < 2 ^ 63 + 2 ^ 62) };
 
     // Writes its bytes from a place of the blob on.
     fn put(&self, blob: &mut [u8], at: usize)
@@ -31,13 +31,9 @@ pub trait PropertyValue: Copy {
 impl<'a> PropertyValue for &'a [u8] {
     ghost value = { λ s. raw s.now };
 
-    #[tactic(auto, unfolding(fdt_values::specs::Value::misfit_value, fdt_values::specs::Value::zero_value, fdt_values::specs::Value::value_bytes))]
-    fn measured(&self) -> Measured {
-        Measured {
-            misfit: false,
-            zero: false,
-            len: self.len(),
-        }
+    #[tactic(auto, unfolding(fdt_properties::specs::Placeholder::measure, fdt_values::specs::Value::misfit_value, fdt_values::specs::Value::zero_value, fdt_values::specs::Value::value_bytes))]
+    fn measured(&self) -> Result<usize, Error> {
+        Ok(self.len())
     }
 
     #[tactic(auto, unfolding(fdt_values::specs::Value::value_bytes))]
@@ -50,12 +46,8 @@ impl<'a> PropertyValue for &'a [u8] {
 impl<'a> PropertyValue for &'a [u32] {
     ghost value = { λ s. cells 4 s.now };
 
-    fn measured(&self) -> Measured {
-        Measured {
-            misfit: false,
-            zero: false,
-            len: 4 * self.len(),
-        }
+    fn measured(&self) -> Result<usize, Error> {
+        Ok(4 * self.len())
     }
 
     #[tactic(auto, unfolding(fdt_values::specs::Value::value_bytes, fdt_bytes::specs::BigEndian::cell_bytes))]
@@ -68,12 +60,8 @@ impl<'a> PropertyValue for &'a [u32] {
 impl<'a> PropertyValue for &'a [u64] {
     ghost value = { λ s. cells 8 s.now };
 
-    fn measured(&self) -> Measured {
-        Measured {
-            misfit: false,
-            zero: false,
-            len: 8 * self.len(),
-        }
+    fn measured(&self) -> Result<usize, Error> {
+        Ok(8 * self.len())
     }
 
     #[tactic(auto, unfolding(fdt_values::specs::Value::value_bytes, fdt_bytes::specs::BigEndian::cell_bytes))]
@@ -92,12 +80,15 @@ pub struct Texts<'a> {
 impl<'a> PropertyValue for Texts<'a> {
     ghost value = { λ t. texts t.joined.now t.lengths.now };
 
-    fn measured(&self) -> Measured {
-        Measured {
-            misfit: !fdt_values::sums_to(self.lengths, self.joined.len()),
-            zero: fdt_names::has_zero(self.joined),
-            len: self.joined.len() + self.lengths.len(),
+    #[tactic(auto, unfolding(fdt_properties::specs::Placeholder::measure, fdt_values::specs::Value::misfit_value, fdt_values::specs::Value::zero_value, fdt_values::specs::Value::value_bytes))]
+    fn measured(&self) -> Result<usize, Error> {
+        if !fdt_values::sums_to(self.lengths, self.joined.len()) {
+            return Err(Error::Misfit);
         }
+        if fdt_names::has_zero(self.joined) {
+            return Err(Error::InvalidString);
+        }
+        Ok(self.joined.len() + self.lengths.len())
     }
 
     #[tactic(auto, unfolding(fdt_values::specs::Value::value_bytes))]

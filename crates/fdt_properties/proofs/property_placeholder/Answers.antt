@@ -9,4 +9,4 @@ pub returns-in_err-tested : goal.returns-in_err-tested
 returns-in_err-tested c = rw (exits _ c.from_residual.ensures) (λ v k. nothing_placed _ (c.in_err-tested.ensures v k))
 
 pub returns : goal.returns
-returns c = λ v k. placed c.in_ok-tested.ensures k c.store_name.ensures (c.put_frame.ensures ∙ ap (λ (n : ℕ). framed c.args.w.blob_used n c.args.value.len c.in_ok-tested.tested.after.blob_used c.args.blob.now) c.offset_of-offset.ensures)
+returns c = λ v k. placed c.in_ok-tested.ensures k c.store_name.ensures (c.put_frame.ensures ∙ ap (λ (n : ℕ). framed c.args.w.blob_used n c.in_ok-tested.tested.len c.in_ok-tested.tested.after.blob_used c.args.blob.now) c.offset_of-offset.ensures)

@@ -1,6 +1,10 @@
--- What the tests ask of numbers of 4 bytes.
-use Rattle.fdt_properties.proofs.Filling.{of_cells}
+-- Numbers of 4 bytes take as many bytes as their bytes are.
+use Rattle.std.proofs.Common.{sym, ap, Ok}
+use Rattle.fdt_bytes.proofs.BigEndian.{length-cells}
+use Rattle.fdt_values.specs.Value.{value_bytes, misfit_value, zero_value}
+use Rattle.fdt_properties.specs.Placeholder.{measure}
 use Rattle.fdt_property_kinds.proofs.RefSliceU32PropertyValue.measured.Goals as goal
 
 pub returns-clause-measures : goal.returns-clause-measures
-returns-clause-measures c = of_cells 4 _
+unfolding measure misfit_value zero_value value_bytes
+returns-clause-measures c = ap Ok (sym (length-cells 4 _))
