@@ -37,10 +37,6 @@ pub accepts-done : (answer : Answer) → accepts answer ≡ true → answer ≡ 
 accepts-done (Ok tt) e = refl
 accepts-done (Err error) e = absurd (true≢false (sym e ∙ refuses error))
 
-pub not_done : (answer : Answer) → (answer ≡ Done → ⊥) → accepts answer ≡ false
-not_done (Ok tt) h = absurd (h refl)
-not_done (Err error) h = refuses error
-
 module _ {A : Type 0} (answer : Answer) (accepted refused : A) where
   pub upon-done : answer ≡ Done → upon answer accepted refused ≡ accepted
   unfolding accepts
