@@ -228,7 +228,3 @@ module _ (b : List ℕ) (at : ℕ) where
     -- the byte before it
     pub word_third : get_or b (at + 2) 0 ≡ word_at b at / 256 % 256
     word_third = omega (arith, word_bytes h, bytes (at + 2), bytes (at + 3))
-
-  -- a number of 8 bytes is two words
-  pub two_words : at + 8 ≤ length b → wide_at b at ≡ word_at b at * 0x1_0000_0000 + word_at b (at + 4)
-  two_words h = read_in_two b at 4 4 h

@@ -10,16 +10,6 @@ use lib.Seq.{sets, sets-eq, set_split, take_all, take-take, take-add, take-appen
 use borrow.Rule.Slice.PartMut.{put_mid}
 use Rattle.fdt_bytes.specs.Splice.{over, splice}
 
--- stores of bs, one after the other, from the front
-pub sets_over : (bs xs : List ℕ) → length bs ≤ length xs → sets xs 0 bs ≡ over bs xs
-unfolding over
-sets_over bs xs h =
-    sets-eq bs xs 0 (rw zero-add h) ∙ ap (λ (n : ℕ). bs ++ drop n xs) (zero-add (length bs))
-
-pub length_over : (bs xs : List ℕ) → length bs ≤ length xs → length (over bs xs) ≡ length xs
-unfolding over
-length_over bs xs h = simp (length-append, length-drop) (omega arith)
-
 pub length-splice : (at : ℕ) (bs xs : List ℕ) → at + length bs ≤ length xs → length (splice at bs xs) ≡ length xs
 unfolding splice over
 length-splice at bs xs h = simp (length-append, length-take, length-drop) (omega arith)

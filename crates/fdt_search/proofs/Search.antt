@@ -1,14 +1,17 @@
 -- Laws of the search for a name: what its tests say of the bytes, and how far it has come.
-use mathlib.Core.Path.{◌≡◌, refl, sym, ◌∙◌}
-use mathlib.Core.Bool.{Bool, true, false, not, ◌&&◌, and-eq-true_iff, true≢false}
+use mathlib.Core.Path.{◌≡◌, refl, sym, ap, ◌∙◌}
+use mathlib.Core.Bool.{Bool, true, false, not, true≢false}
 use mathlib.Core.List.{List, ◌∷◌}
 use mathlib.Core.Logic.{◌↔◌}
 use Prim.Native.Nat.{ℕ, zero, suc, ◌+◌, ◌-◌, ◌≤◌, ◌<◌}
 use native.Mathlib.Omega.{arith}
-use borrow.Author.Count.{below_more}
-use borrow.Author.Tests.{eq-eqb, ne_eqb, eqb-true, eqb-false, ltb-true, ltb-false, not-true}
-use lib.Dec.{eqb, ltb}
-use lib.ListN.{length, get_or, get_or-eq_default}
+use borrow.Author.Tests.{ltb-true, ltb-false}
+use lib.Dec.{ltb}
+use lib.ListN.{length, take, drop, get_or, get_or-eq_default, length-take, length-drop}
+use lib.Seq.{get_or-take, get_or-drop, ext_get_or}
+use Rattle.std.specs.Bool.{Decides}
+use Rattle.std.specs.List.{HoldsAt}
+use Rattle.std.proofs.lemmas.List.{get_or_default}
 use Rattle.fdt_search.specs.Clues.{ClueOf, CluesOf, HasClues, Nowhere}
 use Rattle.fdt_search.specs.FirstEntry.{PlainByte, EntryAt, NoEntry}
 use Rattle.fdt_search.specs.declared.Clue.{Clue}
@@ -22,53 +25,35 @@ below_join P mid to low high k h = go (ltb k mid) refl
     go true e = low k (ltb-true k mid e)
     go false e = high k (ltb-false k mid e) h
 
--- ---- gaps that have the clues
-
-pub own_byte : (name : List ℕ) (at : ℕ) → 0 < at → get_or name (at - 1) 0 ≡ get_or (0 ∷ name) at 0
-own_byte name zero h = absurd (omega arith)
-own_byte name (suc k) h = let e : suc k - 1 ≡ k = omega arith in rw e refl
-
-pub clues_test :
-    (s : List ℕ) (c : Clues) (gap : ℕ) →
-    ((eqb (get_or s (gap + c.first.at) 0) c.first.byte && eqb (get_or s (gap + c.second.at) 0) c.second.byte)
-    && eqb (get_or s (gap + c.third.at) 0) c.third.byte) ≡ true ↔ HasClues s c gap
-clues_test s c gap = (
-  λ h.
-      let p = (and-eq-true_iff _ _).0 h in
-      let q = (and-eq-true_iff _ _).0 p.0 in
-      record { first = eqb-true _ _ q.0; second = eqb-true _ _ q.1; third = eqb-true _ _ p.1 },
-  λ w. simp (eq-eqb _ _ w.first, eq-eqb _ _ w.second, eq-eqb _ _ w.third),
-)
-
-module _ (s : List ℕ) (c : Clues) (from : ℕ) where
-  pub nowhere_join : (mid to : ℕ) → Nowhere s c from mid → Nowhere s c mid to → Nowhere s c from to
-  nowhere_join mid to a b = below_join _ mid to a (λ gap m l h w. b gap l m w)
-
-  -- one turn of a loop over gaps, which has tested those before `from + k`
-  pub nowhere_and :
-      (k : ℕ) (none here : Bool) → (none ≡ true → Nowhere s c from (from + k)) → here ≡ true ↔ HasClues s c (from + k) →
-      (none && not here) ≡ true → Nowhere s c from (from + (k + 1))
-  nowhere_and k none here before at h gap l =
-      let p = (and-eq-true_iff _ _).0 h in
-      below_more _ (from + k) (before p.0) (λ m w. true≢false (sym (at.1 w) ∙ not-true here p.1)) gap (omega arith)
-
 -- ---- entries
 
-module _ (s name : List ℕ) where
-  -- one turn of a loop over the bytes of the name
-  pub plain_more :
-      (place : ℕ) (good : Bool) (i : ℕ) → good ≡ true ↔ ((k : ℕ) → k < i → PlainByte s name place k) →
-      (good && (eqb (get_or s (place + i) 0) (get_or name i 0) && not (eqb (get_or name i 0) 0))) ≡ true ↔ ((k : ℕ) → k < i + 1 → PlainByte s name place k)
-  plain_more place good i before = (
-    λ h.
-        let p = (and-eq-true_iff _ _).0 h in
-        let q = (and-eq-true_iff _ _).0 p.1 in
-        below_more _ i (before.0 p.0) (record { same = eqb-true _ _ q.0; plain = eqb-false _ _ (not-true _ q.1) }),
-    λ all.
-        let w = all i (omega arith) in
-        simp (before.1 (λ k l. all k (omega arith)), eq-eqb _ _ w.same, ne_eqb _ _ w.plain),
+module _ (s name : List ℕ) (place : ℕ) (room : place + length name ≤ length s) where
+  -- as many bytes at the place as the name has
+  abbrev pub part : List ℕ
+  part = take (place + length name - place) (drop place s)
+
+  part_byte : (k : ℕ) → k < length name → get_or part k 0 ≡ get_or s (place + k) 0
+  part_byte k l =
+      get_or-take (place + length name - place) (drop place s) k 0 (omega arith) ∙ get_or-drop place s k 0
+
+  -- a name whose bytes are plain is there
+  pub part_is : ((k : ℕ) → k < length name → PlainByte s name place k) → part ≡ name
+  part_is all =
+      let long : length part ≡ length name = simp (length-take, length-drop) (omega arith) in
+      ext_get_or 0 part name long (λ k l. let m : k < length name = omega arith in part_byte k m ∙ (all k m).same)
+
+  -- the name is there: its bytes are plain exactly if it has no 0
+  pub plain_if : part ≡ name → (has : Bool) → Decides has ((k : ℕ) × (k < length name) × HoldsAt (λ y. y ≡ 0) name k) → not has ≡ true ↔ ((k : ℕ) → k < length name → PlainByte s name place k)
+  plain_if e true d = let w = d.0 refl in (λ h. absurd (true≢false (sym h)), λ all. absurd ((all w.0 w.1).plain (w.2 0)))
+  plain_if e false d = (
+    λ h k l. record {
+      same = sym (part_byte k l) ∙ ap (λ (x : List ℕ). get_or x k 0) e;
+      plain = λ z. true≢false (sym (d.1 (k, l, λ x. get_or_default name k x 0 l ∙ z)));
+    },
+    λ all. refl,
   )
 
+module _ (s name : List ℕ) where
   -- an entry after a gap has there the 0 before it, its bytes and the 0 after it
   entry_byte : (gap : ℕ) → EntryAt s name (gap + 1) → (k : ℕ) → k ≤ length name + 1 → get_or s (gap + k) 0 ≡ get_or (0 ∷ name) k 0
   entry_byte gap w zero l = let e : gap + 1 - 1 ≡ gap + 0 = omega arith in rw (← e) (w.begun (omega arith))

@@ -1,5 +1,5 @@
 -- What the parts of the search test on the way. What `first_entry` promises does not depend on it.
-use Rattle.std.specs.Prelude.{ℕ, ◌+◌, ◌≤◌, ◌<◌, ◌≡◌, List, ◌∷◌, length, get_or}
+use Rattle.std.specs.Prelude.{ℕ, ◌+◌, ◌≤◌, ◌<◌, ◌≡◌, List, ◌∷◌, length, get_or, Option, Some, None}
 use Rattle.fdt_search.specs.declared.Clue.{Clue}
 use Rattle.fdt_search.specs.declared.Clues.{Clues}
 
@@ -24,9 +24,10 @@ pub record HasClues (s : List ℕ) (c : Clues) (gap : ℕ) : Type 0 where
 abbrev pub Nowhere : List ℕ → Clues → ℕ → ℕ → Type 0
 Nowhere s c from to = (gap : ℕ) → gap < to → from ≤ gap → HasClues s c gap → ⊥
 
--- a gap from `from` to `to`, and none from `from` on and before it has the clues
-abbrev pub NextGap : List ℕ → Clues → ℕ → ℕ → ℕ → Type 0
-NextGap s c from to gap = (from ≤ gap) × (gap ≤ to) × Nowhere s c from gap
+-- what a search from `from` to `to` gives: a gap before which none has the clues, or nothing, where none at all has them
+abbrev pub NextGap : List ℕ → Clues → ℕ → ℕ → Option ℕ → Type 0
+NextGap s c from to (Some gap) = (from ≤ gap) × (gap < to) × Nowhere s c from gap
+NextGap s c from to None = Nowhere s c from to
 
 -- for every gap before `to`, the bytes that the clues ask for are in s
 pub record Readable (s : List ℕ) (c : Clues) (to : ℕ) : Type 0 where

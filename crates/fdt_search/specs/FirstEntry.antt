@@ -1,5 +1,5 @@
 -- The first place where a name is a whole entry, in terms of bytes.
-use Rattle.std.specs.Prelude.{ℕ, ◌+◌, ◌-◌, ◌≤◌, ◌<◌, ◌≡◌, List, length, get_or}
+use Rattle.std.specs.Prelude.{ℕ, ◌+◌, ◌-◌, ◌<◌, ◌≡◌, List, length, get_or, Option, Some, None}
 
 -- a byte of the name is at its place, and it is not 0
 pub record PlainByte (s name : List ℕ) (place k : ℕ) : Type 0 where
@@ -17,8 +17,7 @@ pub record EntryAt (s name : List ℕ) (place : ℕ) : Type 0 where
 abbrev pub NoEntry : List ℕ → List ℕ → ℕ → Type 0
 NoEntry s name to = (place : ℕ) → place < to → EntryAt s name place → ⊥
 
--- the first place where the name is an entry, or the length of the strings if there is none
-pub record FirstEntry (s name : List ℕ) (place : ℕ) : Type 0 where
-  pub inside : place ≤ length s
-  pub found : place < length s → EntryAt s name place
-  pub first : NoEntry s name place
+-- the first place where the name is an entry, or nothing, where it is one at no place
+abbrev pub FirstEntry : List ℕ → List ℕ → Option ℕ → Type 0
+FirstEntry s name (Some place) = EntryAt s name place × NoEntry s name place
+FirstEntry s name None = NoEntry s name (length s)

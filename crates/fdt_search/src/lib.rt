@@ -10,6 +10,9 @@ ghost use Rattle.fdt_search.specs.FirstEntry.{PlainByte, EntryAt, FirstEntry};
 // The byte after each entry.
 const END: u8 = 0;
 
+// How many gaps are tested at once.
+const BLOCK: usize = 32;
+
 // A byte to look for, and its place counted from the gap. For a name, at 0 the 0 before it, then its bytes, then the 0 after it.
 #[derive(Clone, Copy)]
 pub struct Clue {
@@ -30,26 +33,12 @@ fn clue_of(name: &[u8], at: usize) -> Clue
     requires { at ≤ length name.now + 1 }
     ensures { ClueOf name.now result }
 {
-    if at == 0 {
-        return Clue { at, byte: END };
-    }
-    if name.len() < at {
-        return Clue { at, byte: END };
-    }
-    Clue {
-        at,
-        byte: name[at - 1],
-    }
-}
-
-// One less than a number; 0 for 0.
-fn previous(n: usize) -> usize
-    ensures { result ≤ n }
-{
-    if n == 0 {
-        return 0;
-    }
-    n - 1
+    let byte = if 0 < at && at <= name.len() {
+        name[at - 1]
+    } else {
+        END
+    };
+    Clue { at, byte }
 }
 
 // The clues of a name at three places counted from the gap.
@@ -74,62 +63,52 @@ fn has_clues(s: &[u8], gap: usize, c: Clues) -> bool
         & (s[gap + c.third.at] == c.third.byte)
 }
 
-// True only if none of 32 gaps has the clues. Every gap is tested, so that many can be tested at once.
+// Whether none of the gaps of a block has the clues. Every gap is tested, so that many can be tested at once.
 fn nowhere(s: &[u8], from: usize, c: Clues) -> bool
     requires { Readable s.now c (from + 32) }
-    ensures { result ≡ true → Nowhere s.now c from (from + 32) }
+    ensures { result ≡ true ↔ Nowhere s.now c from (from + 32) }
 {
     let mut none = true;
-    let mut k = 0;
-    while k < 32 {
-        none = none & !has_clues(s, from + k, c);
-        k += 1;
+    for k in 0..BLOCK {
+        none &= !has_clues(s, from + k, c);
     }
     none
 }
 
-// The first gap from `from` on that has the clues; `to` if none before it does.
-fn gap_between(s: &[u8], from: usize, to: usize, c: Clues) -> usize
+// The first gap from `from` on and before `to` that has the clues.
+fn gap_between(s: &[u8], from: usize, to: usize, c: Clues) -> Option<usize>
     requires { (from ≤ to) × Readable s.now c to }
     ensures { NextGap s.now c from to result }
 {
-    let mut gap = from;
-    while gap < to {
+    for gap in from..to {
         if has_clues(s, gap, c) {
-            return gap;
+            return Some(gap);
         }
-        gap += 1;
     }
-    to
+    None
 }
 
-// The first gap from `from` on that has the clues; `to` if none before it does. Tests 32 gaps at a time.
-pub fn next_gap(s: &[u8], from: usize, to: usize, c: Clues) -> usize
+// The first gap from `from` on and before `to` that has the clues. Tests a block of gaps at a time.
+pub fn next_gap(s: &[u8], from: usize, to: usize, c: Clues) -> Option<usize>
     requires { (from ≤ to) × Readable s.now c to }
     ensures { NextGap s.now c from to result }
 {
-    let mut at = from;
-    while 32 <= to - at {
+    let blocks = (to - from) / BLOCK;
+    for i in 0..blocks {
+        let at = from + BLOCK * i;
         if !nowhere(s, at, c) {
-            return gap_between(s, at, at + 32, c);
+            return gap_between(s, at, at + BLOCK, c);
         }
-        at += 32;
     }
-    gap_between(s, at, to, c)
+    gap_between(s, from + BLOCK * blocks, to, c)
 }
 
-// Whether the name is at a place, and none of its bytes is 0. Every byte is compared, so that many can be compared at once.
+// Whether the name is at a place, and none of its bytes is 0.
 fn same_plain(s: &[u8], place: usize, name: &[u8]) -> bool
     requires { place + length name.now ≤ length s.now }
     ensures { result ≡ true ↔ ((k : ℕ) → k < length name.now → PlainByte s.now name.now place k) }
 {
-    let mut good = true;
-    let mut i = 0;
-    while i < name.len() {
-        good = good & ((s[place + i] == name[i]) & (name[i] != END));
-        i += 1;
-    }
-    good
+    &s[place..place + name.len()] == name && !name.contains(&END)
 }
 
 // Whether the name is an entry at a place.
@@ -140,10 +119,8 @@ fn entry_at(s: &[u8], place: usize, name: &[u8]) -> bool
     if s[place + name.len()] != END {
         return false;
     }
-    if 0 < place {
-        if s[place - 1] != END {
-            return false;
-        }
+    if 0 < place && s[place - 1] != END {
+        return false;
     }
     same_plain(s, place, name)
 }
@@ -168,10 +145,7 @@ fn starts_with(s: &[u8], name: &[u8]) -> bool
     requires { length name.now < length s.now }
     ensures { result ≡ true ↔ EntryAt s.now name.now 0 }
 {
-    if !alike(s, name) {
-        return false;
-    }
-    entry_at(s, 0, name)
+    alike(s, name) && entry_at(s, 0, name)
 }
 
 // Where the bytes at a place first differ from the name, counted from the gap before it; 0 if they do not.
@@ -179,14 +153,12 @@ fn difference(s: &[u8], place: usize, name: &[u8]) -> usize
     requires { place + length name.now ≤ length s.now }
     ensures { result ≤ length name.now }
 {
-    let mut i = 0;
-    while i < name.len() {
-        if s[place + i] != name[i] {
-            return i + 1;
-        }
-        i += 1;
-    }
-    0
+    let bytes = &s[place..place + name.len()];
+    bytes
+        .iter()
+        .zip(name)
+        .position(|(byte, wanted)| byte != wanted)
+        .map_or(0, |i| i + 1)
 }
 
 // The clues after a place that has the clues and is no entry: what differs there takes the place of the oldest.
@@ -203,34 +175,34 @@ fn first_clues(s: &[u8], name: &[u8]) -> Clues
     ensures { CluesOf name.now result }
 {
     let last = name.len();
-    let c = clues_at(name, last, previous(last), last + 1);
+    let c = clues_at(name, last, last.saturating_sub(1), last + 1);
     if alike(s, name) {
         return sharper(s, 0, name, c);
     }
     c
 }
 
-// The first place where the name is an entry; the length of the strings if there is none.
-pub fn first_entry(s: &[u8], name: &[u8]) -> usize
+// The first place where the name is an entry.
+pub fn first_entry(s: &[u8], name: &[u8]) -> Option<usize>
     ensures { FirstEntry s.now name.now result }
 {
     let n = name.len();
     if s.len() <= n {
-        return s.len();
+        return None;
     }
     if starts_with(s, name) {
-        return 0;
+        return Some(0);
     }
     let gaps = s.len() - n - 1;
     let mut c = first_clues(s, name);
-    let mut gap = next_gap(s, 0, gaps, c);
-    while gap < gaps {
+    let mut from = 0;
+    while let Some(gap) = next_gap(s, from, gaps, c) {
         let place = gap + 1;
         if entry_at(s, place, name) {
-            return place;
+            return Some(place);
         }
         c = sharper(s, place, name, c);
-        gap = next_gap(s, place, gaps, c);
+        from = place;
     }
-    s.len()
+    None
 }

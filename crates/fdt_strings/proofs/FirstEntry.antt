@@ -5,7 +5,7 @@ use Prim.Native.Nat.{ℕ, zero, suc, ◌+◌, ◌-◌, ◌≤◌, ◌<◌}
 use native.Mathlib.Omega.{arith}
 use lib.ListN.{length, take, drop, get_or, get_or-append, take-append-drop, length-drop}
 use lib.Seq.{take-suc, drop_at, drop-cons, drop-drop, get_or_at, get_or-take, get_or-drop, length-take-le, ext_get_or}
-use Rattle.fdt_search.specs.FirstEntry.{EntryAt, NoEntry}
+use Rattle.fdt_search.specs.FirstEntry.{EntryAt, NoEntry, FirstEntry}
 use Rattle.fdt_strings.specs.Entries.{entry, find_string, NoZero, no_byte, next_byte}
 use Rattle.std.specs.Prelude.{Option, Some, None}
 use Rattle.fdt_strings.proofs.Entries.{length-entry, Whole, empty, ended, whole-last, found-stands, stands-found, stands-fits, found-append}
@@ -77,3 +77,8 @@ module _ (s name : List ℕ) where
       go : (f : Option ℕ) → find_string s name ≡ f → f ≡ None
       go (Some i) e = absurd (none i (found-entry i e))
       go None e = refl
+
+  -- the first place where the name is an entry is where it is found
+  pub first_found : (r : Option ℕ) → FirstEntry s name r → r ≡ find_string s name
+  first_found (Some i) w = sym (entry_found i w.0 w.1)
+  first_found None none = sym (entry_nowhere (λ i w. none i (omega (arith, w.fits)) w))

@@ -21,8 +21,7 @@ pub struct StringRoom;
 pub fn find_string(strings: &[u8], name: &[u8]) -> Option<usize>
     ensures { result ≡ find_string strings.now name.now }
 {
-    let at = fdt_search::first_entry(strings, name);
-    if at < strings.len() { Some(at) } else { None }
+    fdt_search::first_entry(strings, name)
 }
 
 // Finds the name in the used strings, or a place for it after them if it and its 0 fit within `room`. Stores nothing.

@@ -1,18 +1,19 @@
--- `same_plain` meets its contract. The invariant: `good` is true exactly if the bytes before `i` are those of the name and not 0.
-use mathlib.Core.Path.{refl}
-use native.Mathlib.Omega.{arith}
-use Rattle.fdt_search.proofs.Search.{plain_more}
+-- `same_plain` meets its contract: the part of the strings is the name, and the name has no 0.
+use mathlib.Core.Path.{sym, ◌∙◌}
+use mathlib.Core.Bool.{false≢true}
+use lib.Dec.{eqb}
+use Rattle.std.specs.Cmp.Lexicographic.{same_text, other_text}
+use Rattle.std.proofs.lemmas.Bool.Decides.{Decides-eqb}
+use Rattle.std.proofs.lemmas.List.Elements.{contains_decides}
+use Rattle.fdt_search.proofs.Search.{part_is, plain_if}
 use Rattle.fdt_search.proofs.same_plain.Goals as goal
 
-pub loop-i-init : goal.loop-i-init
-loop-i-init c = (omega arith, (λ e k l. absurd (omega arith), λ all. refl))
+pub returns-then-eq : goal.returns-then-eq
+returns-then-eq c =
+    plain_if _ _ _ c.requires (same_text _ _ (sym c.if-eq.true ∙ c.eq.ensures)) _ (contains_decides eqb Decides-eqb _ 0 _ c.contains.ensures.cases)
 
-pub loop-i-preserved : goal.loop-i-preserved
-loop-i-preserved c =
-    let l = c.loop-i in
-    (omega arith, plain_more _ _ _ l.good l.i l.invariant.1)
-
-pub returns : goal.returns
-returns c =
-    let l = c.loop-i in
-    (λ e k h. l.invariant.1.0 e k (omega arith), λ all. l.invariant.1.1 (λ k h. all k (omega arith)))
+pub returns-else-eq : goal.returns-else-eq
+returns-else-eq c = (
+  λ e. absurd (false≢true (sym c.if-eq.false ∙ e)),
+  λ all. absurd (other_text _ _ (sym c.if-eq.false ∙ c.eq.ensures) (part_is _ _ _ c.requires all)),
+)
