@@ -1,15 +1,17 @@
 -- The filter before the look back: a property with the offset has three bytes, so where no place has them, there is none.
 use mathlib.Core.Path.{◌≡◌, refl, ap, ◌∙◌}
-use mathlib.Core.Bool.{Bool, true, false}
+use mathlib.Core.Bool.{Bool, true, false, true≢false}
 use mathlib.Core.List.{List}
 use Prim.Native.Nat.{ℕ, ◌+◌, ◌-◌, ◌/◌, ◌%◌, ◌≤◌, ◌<◌}
 use native.Mathlib.Omega.{arith}
 use lib.ListN.{length, get_or}
+use Rattle.std.specs.Prelude.{Option, Some, None}
+use Rattle.std.specs.Option.{is_some}
 use Rattle.fdt_bytes.proofs.BigEndian.{word_last, word_third}
 use Rattle.fdt_format.specs.LookBack.{look_back}
 use Rattle.fdt_format.specs.Tokens.{property_token}
 use Rattle.fdt_format.proofs.LookBack.{FoundFrom, look_place}
-use Rattle.fdt_search.specs.Clues.{HasClues, Nowhere}
+use Rattle.fdt_search.specs.Clues.{HasClues, Nowhere, NextGap}
 use Rattle.fdt_search.specs.declared.Clues.{Clues}
 
 -- the last byte of the token, and the last two of the offset
@@ -38,3 +40,8 @@ module _ (b : List ℕ) (bytes : (i : ℕ) → get_or b i 0 < 256) {end : ℕ} (
       go : (found : Bool) → look_back b end offset start ≡ found → found ≡ false
       go true e = let p = look_place b end offset start e in absurd (none p.place (omega (arith, t, p.words)) p.on (found_clues p))
       go false e = refl
+
+  -- a search that finds no place with the clues rules the offset out
+  pub ruled_out : {to : ℕ} → to ≡ end - 11 → (r : Option ℕ) → NextGap b (clues_of offset) start to r → is_some r ≡ false → look_back b end offset start ≡ false
+  ruled_out t (Some gap) w e = absurd (true≢false e)
+  ruled_out t None none e = nowhere_none t none

@@ -18,13 +18,7 @@ fn ruled_out(blob: &[u8], start: usize, at: usize, end: usize, offset: usize) ->
     ensures { result ≡ true → look_back blob.now end offset at ≡ false }
 {
     let passed = at - start;
-    if passed < FROM {
-        return false;
-    }
-    if TO <= passed {
-        return false;
-    }
-    if end - at < FROM {
+    if passed < FROM || TO <= passed || end - at < FROM {
         return false;
     }
     let c = Clues {
@@ -42,7 +36,7 @@ fn ruled_out(blob: &[u8], start: usize, at: usize, end: usize, offset: usize) ->
         },
     };
     let to = end - 11;
-    fdt_search::next_gap(blob, at, to, c) == to
+    fdt_search::next_gap(blob, at, to, c).is_none()
 }
 
 // Whether one of the properties from `start` on has this name offset. Stops at `end`, or at anything that is no whole property.
@@ -51,17 +45,14 @@ pub fn look_back(blob: &[u8], start: usize, end: usize, offset: usize) -> bool
     ensures { result ≡ look_back blob.now end offset start }
 {
     let mut at = start;
-    loop {
-        if ruled_out(blob, start, at, end, offset) {
+    while !ruled_out(blob, start, at, end, offset) {
+        let Some(size) = fdt_read_token::property_size(blob, at, end) else {
             return false;
-        }
-        let size = fdt_read_token::property_size(blob, at, end);
-        if size == 0 {
-            return false;
-        }
+        };
         if fdt_bytes::read_u32(blob, at + 8) as usize == offset {
             return true;
         }
         at += size;
     }
+    false
 }

@@ -4,8 +4,8 @@ use Prim.Native.Nat.{◌-◌, ◌≤◌}
 use Rattle.fdt_format.specs.LookBack.{look_back}
 use Rattle.fdt_look_back.proofs.look_back.Given as goal
 
-abbrev pub invariant-loop-start : goal.invariant-loop-start
-invariant-loop-start l = (l.start ≤ l.at) × (l.at ≤ l.end) × (look_back l.blob l.end l.offset l.start ≡ look_back l.blob l.end l.offset l.at)
+abbrev pub invariant-loop-size : goal.invariant-loop-size
+invariant-loop-size l = (l.start ≤ l.at) × (l.at ≤ l.end) × (look_back l.blob l.end l.offset l.start ≡ look_back l.blob l.end l.offset l.at)
 
-abbrev pub decreases-loop-start : goal.decreases-loop-start
-decreases-loop-start l = l.end - l.at
+abbrev pub decreases-loop-size : goal.decreases-loop-size
+decreases-loop-size l = l.end - l.at

@@ -1,25 +1,16 @@
--- `ruled_out` meets its contract: if the first place with the clues is the end, none has them, and no property has the offset.
-use mathlib.Core.Bool.{false≢true}
+-- `ruled_out` meets its contract: if no place has the clues, no property has the offset.
+use mathlib.Core.Path.{refl, ap, ◌∙◌}
+use mathlib.Core.Bool.{not}
 use native.Mathlib.Omega.{arith}
-use borrow.Author.Tests.{eqb-true}
-use Rattle.fdt_look_back.proofs.Filter.{nowhere_none}
+use Rattle.fdt_look_back.proofs.Filter as filter
 use Rattle.fdt_look_back.proofs.ruled_out.Goals as goal
-
-pub returns-then-passed-lt-FROM : goal.returns-then-passed-lt-FROM
-returns-then-passed-lt-FROM c e = absurd (false≢true e)
-
-pub returns-then-passed-ge-TO : goal.returns-then-passed-ge-TO
-returns-then-passed-ge-TO c e = absurd (false≢true e)
-
-pub returns-then-end-at-lt-FROM : goal.returns-then-end-at-lt-FROM
-returns-then-end-at-lt-FROM c e = absurd (false≢true e)
 
 pub returns : goal.returns
 returns c e =
-    nowhere_none
+    filter.ruled_out
     c.args.blob.now
-    (λ i. omega (arith, c.shared_slice_known-1.given i))
+    (λ i. omega (arith, c.type_inv.blob i))
     c.requires.2
-    _ _
-    (eqb-true _ _ e)
-    c.next_gap.ensures.2
+    _ _ refl _
+    c.next_gap.ensures
+    (c.is_none.ensures ∙ ap not e)
