@@ -148,7 +148,8 @@ fn put_frame(blob: &mut [u8], used: usize, offset: usize, len: usize, end: usize
 }
 
 // Makes all tests of a property and, if they are passed, writes everything except its value: its name, words and padding.
-// `value` is what the value's own tests find.
+// `value` is what the value's own tests find. Record and buffers are no struct: document 01's calls are lent the buffers one by one,
+// so that each call would only put them together and take them apart again.
 pub fn property_placeholder(
     w: Record,
     blob: &mut [u8],

@@ -56,7 +56,7 @@ impl<'a> PropertyValue for &'a [u32] {
     }
 }
 
-// Numbers of 8 bytes. Not one impl for every `Cell`: of a type parameter it is not known that a slice's bytes can be counted.
+// Numbers of 8 bytes. Not one impl for every `Cell`: tried, but of a type parameter it is not proved that a slice's bytes can be counted.
 impl<'a> PropertyValue for &'a [u64] {
     ghost value = { λ s. cells 8 s.now };
 
@@ -70,7 +70,7 @@ impl<'a> PropertyValue for &'a [u64] {
     }
 }
 
-// Strings, given as their joined bytes and their lengths.
+// Strings, given as their joined bytes and their lengths, as `geirovund_property_string_list` is given them from C.
 #[derive(Clone, Copy)]
 pub struct Texts<'a> {
     pub joined: &'a [u8],
