@@ -1,6 +1,6 @@
 -- Laws of recording a phandle: one turn of the search, exactly when each answer is given, what passing shows, and where the table changes.
 use mathlib.Core.Path.{◌≡◌, refl, ap, ◌∙◌}
-use mathlib.Core.Bool.{Bool, true, false, cond, ◌||◌}
+use mathlib.Core.Bool.{◌||◌}
 use mathlib.Core.List.{List, [], ◌∷◌}
 use mathlib.Core.Logic.{◌≢◌}
 use Prim.Native.Nat.{ℕ, ◌<◌}
@@ -10,6 +10,7 @@ use lib.Dec.{eqb}
 use lib.ListN.{length, get_or, set, length-set}
 use lib.Seq.{get_or-set_same, get_or-set_other}
 use Rattle.fdt_names.specs.Names.{one_of}
+use Rattle.std.proofs.lemmas.Bool.{cond_both}
 use Rattle.std.specs.Prelude.{nat_eq}
 use Rattle.std.specs.List.{list_any}
 use Rattle.fdt_record.specs.declared.Record.{Record}
@@ -30,11 +31,6 @@ one_of_any (one ∷ more) value = ap (λ b. nat_eq one value || b) (one_of_any m
 pub record RecordFits (w : Record) (entries : ℕ) : Type 0 where
   pub phandles : FitPhandles w entries
   pub room : w.phandles_used < w.phandles_room
-
--- what both ways of a test give
-either : {A B : Type 0} (f : A → B) (t : Bool) (x y : A) (z : B) → f x ≡ z → f y ≡ z → f (cond t x y) ≡ z
-either f true x y z p q = p
-either f false x y z p q = q
 
 module _ (w : Record) (lent : ℕ) (strings table : List ℕ) (value : ℕ) where
   pub record_exactly : Exactly (record_rows w lent strings table value) (record_answer w lent strings table value)
@@ -61,10 +57,10 @@ module _ (w : Record) (lent : ℕ) (strings table : List ℕ) (value : ℕ) wher
   pub table_elsewhere : (i : ℕ) → i ≢ w.phandles_used → get_or (phandle_table w lent strings table value) i 0 ≡ get_or table i 0
   unfolding phandle_table
   table_elsewhere i h =
-      either (λ (l : List ℕ). get_or l i 0) (accepts (record_answer w lent strings table value)) (set table w.phandles_used value) table (get_or table i 0) (get_or-set_other table w.phandles_used i value 0 h) refl
+      cond_both (accepts (record_answer w lent strings table value)) (set table w.phandles_used value) table (λ (l : List ℕ). get_or l i 0 ≡ get_or table i 0) (λ t. get_or-set_other table w.phandles_used i value 0 h) (λ t. refl)
 
   -- its length stays
   pub table_length : length (phandle_table w lent strings table value) ≡ length table
   unfolding phandle_table
   table_length =
-      either length (accepts (record_answer w lent strings table value)) (set table w.phandles_used value) table (length table) (length-set table w.phandles_used value) refl
+      cond_both (accepts (record_answer w lent strings table value)) (set table w.phandles_used value) table (λ (l : List ℕ). length l ≡ length table) (λ t. length-set table w.phandles_used value) (λ t. refl)
