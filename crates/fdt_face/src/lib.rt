@@ -1,4 +1,5 @@
 // The writer lent and changed in place, as the crate's own methods do: each call leaves in it what the call by value returns.
+// Each function stores the writer by itself: proofs/Thin.antt has the law of all functions of this form.
 #![tactic(auto)]
 
 ghost use Rattle.std.specs.Prelude.{◌≡◌, List, ℕ, IfOk};

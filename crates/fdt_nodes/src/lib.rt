@@ -82,8 +82,7 @@ pub fn begin_node(w: Record, blob: &mut [u8], name: &[u8]) -> Outcome<FdtWriterN
             after: w,
         };
     }
-    let used = w.blob_used;
-    put_begin(&mut blob[used..], name);
+    put_begin(&mut blob[w.blob_used..], name);
     let after = after_begin(w, name);
     Outcome {
         answer: Ok(FdtWriterNode(after.node_depth)),
@@ -132,8 +131,7 @@ pub fn end_node(w: Record, blob: &mut [u8], node: FdtWriterNode) -> Outcome<()>
             after: w,
         };
     }
-    let used = w.blob_used;
-    fdt_bytes::append_u32(&mut blob[used..], FDT_END_NODE);
+    fdt_bytes::append_u32(&mut blob[w.blob_used..], FDT_END_NODE);
     Outcome {
         answer: Ok(()),
         after: after_end(w),

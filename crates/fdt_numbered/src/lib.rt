@@ -56,7 +56,7 @@ pub fn set_boot_cpuid_phys(w: FdtWriter, boot_cpuid_phys: u32) -> Numbered
     w.set_boot_cpuid_phys(boot_cpuid_phys).into()
 }
 
-// As `FdtWriter::begin_node`. Stores the handle in `node`; 0 if the call is refused.
+// As `FdtWriter::begin_node`. Stores the handle in `node`; 0 if the call is refused, since C knows no `Option`.
 pub fn begin_node(w: FdtWriter, blob: &mut [u8], name: &[u8], node: &mut usize) -> Numbered
     ensures { (strings phandles : List ℕ) → Made (begin_node name.now) (desk_of w.0 blob.old strings phandles) result.number (desk_of result.writer.0 blob.new strings phandles) × (node.new ≡ handle_number (desk_of w.0 blob.old strings phandles) name.now) }
 {

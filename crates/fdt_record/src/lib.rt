@@ -25,6 +25,7 @@ pub const FDT_MAX_NODE_DEPTH: usize = 64;
 
 // What a writer knows of the calls so far and of its buffers: of each the usable length at opening (room) and how much is used.
 // `node_start` is the place in the blob where the open node's properties start.
+// C's `struct geirovund_writer` has the same fields, so it holds lengths and flags, and no slices or Options.
 #[repr(C)]
 #[derive(Clone, Copy, Default)]
 pub struct Record {

@@ -47,7 +47,7 @@ impl FdtWriter {
         FdtWriter::new_with_mem_reserv(blob, strings, phandles, &[])
     }
 
-    // Opens a writer with memory reservations, given as address, size, address, size and so on.
+    // Opens a writer with memory reservations, given as address, size, address, size and so on, as C lends them.
     // Refused 17, 19, 8, 9, 14, in this order.
     pub fn new_with_mem_reserv(
         blob: &mut [u8],
@@ -120,7 +120,7 @@ impl FdtWriter {
         self.property_string_list(blob, strings, name, val, &[val.len()])
     }
 
-    // Writes a property whose value is a list of strings, each with a 0. They are given as their joined bytes and their lengths.
+    // Writes a property whose value is a list of strings, each with a 0. They are given as their joined bytes and their lengths, as C lends them.
     // Refused 18, 17, 5 for a string, 2, 1, 5 for the name, 11, 20, 15, 14, in this order.
     pub fn property_string_list(
         self,
