@@ -1,74 +1,43 @@
-// What a line changes for the calls after it: the arrays, how much of them is lent, the record, how lines are reported.
-use crate::desk::Desk;
-use crate::{fields, room, verbs};
+// What a line changes for the calls after it: the arrays, how much of them is lent, the record.
+use crate::desk::{Desk, MARK, PHANDLES, WIDE_MARK};
+use crate::fields;
+use crate::verbs::Change;
 use fdt_writer::FdtWriter;
-use text_lines::{numbers, spelling};
+use std::alloc::AllocError;
+use text_lines::{lists, numbers, spelling};
 
-// Writes the line's bytes into an array, from the place that the line gives.
-fn put(s: &mut [u8], line: &[u8]) {
-    let at = numbers::number(line, 1) as usize;
-    if at < s.len() {
-        spelling::word(line, 2, &mut s[at..]);
+impl Desk {
+    // Changes how much of the arrays is lent.
+    fn lend(&mut self, line: &[u8]) {
+        self.blob.count = numbers::number(line, 1) as usize;
+        self.strings.count = numbers::number(line, 2) as usize;
+        self.phandles.count = numbers::number(line, 3) as usize;
     }
-}
 
-// Writes the line's numbers into a table, from the place that the line gives.
-fn put_table(t: &mut [u32], line: &[u8]) {
-    let at = numbers::number(line, 1) as usize;
-    if at < t.len() {
-        numbers::cells(line, 2, &mut t[at..]);
+    // Marks all of the arrays.
+    fn clear(&mut self) {
+        self.blob.all.fill(MARK);
+        self.strings.all.fill(MARK);
+        self.phandles.all.fill(WIDE_MARK);
     }
-}
 
-// Puts bytes or numbers into an array.
-fn filled(mut d: Desk, verb: usize, line: &[u8]) -> Desk {
-    let mut blob = d.blob;
-    let mut strings = d.strings;
-    let mut phandles = d.phandles;
-    match verb {
-        verbs::PUT_BLOB => put(&mut blob, line),
-        verbs::PUT_STRINGS => put(&mut strings, line),
-        _ => put_table(&mut phandles, line),
-    }
-    d.blob = blob;
-    d.strings = strings;
-    d.phandles = phandles;
-    d
-}
-
-// Changes how much of the arrays is lent.
-fn lent(mut d: Desk, line: &[u8]) -> Desk {
-    d.blob_lent = numbers::number(line, 1) as usize;
-    d.strings_lent = numbers::number(line, 2) as usize;
-    d.phandles_lent = numbers::number(line, 3) as usize;
-    d
-}
-
-// Fills the arrays with bytes ee, which show what no call wrote.
-fn marked(mut d: Desk) -> Desk {
-    let blob = room::blob();
-    let strings = room::strings();
-    let phandles = [0xeeee_eeee; 320];
-    d.blob = blob;
-    d.strings = strings;
-    d.phandles = phandles;
-    d
-}
-
-// The desk after a line that makes no call.
-pub fn run(d: Desk, verb: usize, line: &[u8]) -> Desk {
-    let mut next = d;
-    match verb {
-        verbs::BUFFERS => next = marked(lent(d, line)),
-        verbs::LEND => next = lent(d, line),
-        verbs::PUT_BLOB | verbs::PUT_STRINGS | verbs::PUT_PHANDLES => next = filled(d, verb, line),
-        verbs::SET => {
-            let w = FdtWriter(fields::set(d.writer.0, line));
-            next.writer = w;
+    // Makes the change that a line asks for.
+    pub fn change(&mut self, change: Change, line: &[u8]) -> Result<(), AllocError> {
+        let at = numbers::number(line, 1) as usize;
+        match change {
+            Change::Buffers => {
+                self.lend(line);
+                self.clear();
+            }
+            Change::Lend => self.lend(line),
+            Change::PutBlob => lists::put(&mut self.blob.all, at, spelling::word(line, 2)),
+            Change::PutStrings => lists::put(&mut self.strings.all, at, spelling::word(line, 2)),
+            Change::PutPhandles => {
+                let cells = numbers::numbers(self.alloc, line, 2, PHANDLES, numbers::low)?;
+                lists::put(&mut self.phandles.all, at, cells.into_iter());
+            }
+            Change::Set => self.writer = FdtWriter(fields::with(self.writer.0, line)),
         }
-        verbs::ALOUD => next.aloud = true,
-        verbs::QUIET => next.aloud = false,
-        _ => {}
+        Ok(())
     }
-    next
 }

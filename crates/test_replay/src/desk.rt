@@ -1,67 +1,71 @@
-// What is kept from line to line. It is passed by value: a lent buffer costs more to prove in each function than a copy.
-ghost use Rattle.std.specs.Prelude.{◌≤◌, length};
-ghost use Rattle.std.specs.Counts.{IsPrefixLen};
-
-use crate::room;
+// What is kept from line to line.
+use crate::lent::Lent;
+use crate::told;
+use crate::verbs::Verb;
 use fdt_writer::{Answered, FdtWriter};
+use std::alloc::{AllocError, Global};
+use std::io;
+use std::io::Write;
 
-// A writer; its last answer's number, and the handle that it gave or 0; the arrays, and how much of the front of each the
-// next call is lent; whether lines are written again.
-#[derive(Clone, Copy)]
+// How long the arrays are: each is longer than its ceiling.
+const BLOB: usize = 65_600;
+
+const STRINGS: usize = 8_256;
+
+pub const PHANDLES: usize = 320;
+
+// What no call wrote in the arrays: bytes ee.
+pub const MARK: u8 = 0xee;
+
+pub const WIDE_MARK: u32 = 0xeeee_eeee;
+
+// A writer; its last answer's number, and the handle that it gave or 0; the arrays; whether lines are written again.
+#[derive(Drop)]
 pub struct Desk {
+    pub alloc: Global,
     pub writer: FdtWriter,
     pub number: u32,
     pub handle: usize,
-    pub blob: [u8; 65_600],
-    pub strings: [u8; 8_256],
-    pub phandles: [u32; 320],
-    pub blob_lent: usize,
-    pub strings_lent: usize,
-    pub phandles_lent: usize,
+    pub blob: Lent<u8>,
+    pub strings: Lent<u8>,
+    pub phandles: Lent<u32>,
     pub aloud: bool,
 }
 
-// No writer yet: the closed one, which an opening without room returns, and nothing lent.
-pub fn closed() -> Desk {
-    let mut none = [0; 0];
-    let writer = FdtWriter::new(&mut none, &[], &[]).writer;
-    let blob = room::blob();
-    let strings = room::strings();
-    let phandles = [0xeeee_eeee; 320];
-    Desk {
-        writer,
-        number: 0,
-        handle: 0,
-        blob,
-        strings,
-        phandles,
-        blob_lent: 0,
-        strings_lent: 0,
-        phandles_lent: 0,
-        aloud: true,
+impl Desk {
+    // No writer yet: the closed one, which an opening without room returns, and nothing lent.
+    pub fn new(alloc: Global) -> Result<Desk, AllocError> {
+        Ok(Desk {
+            alloc,
+            writer: FdtWriter::new(&mut [], &[], &[]).writer,
+            number: 0,
+            handle: 0,
+            blob: Lent::new(alloc, BLOB, MARK)?,
+            strings: Lent::new(alloc, STRINGS, MARK)?,
+            phandles: Lent::new(alloc, PHANDLES, WIDE_MARK)?,
+            aloud: true,
+        })
     }
-}
 
-// The desk after an answer without a handle.
-pub fn answered(mut d: Desk, a: Answered) -> Desk {
-    let writer = a.writer;
-    let answer = a.answer;
-    d.writer = writer;
-    d.number = fdt_record::number(answer);
-    d.handle = 0;
-    d
-}
+    // Keeps an answer, without its handle.
+    pub fn keep<T: Copy>(&mut self, a: Answered<T>) {
+        self.writer = a.writer;
+        self.number = fdt_record::number(a.answer);
+        self.handle = 0;
+    }
 
-// How many bytes of a buffer are lent: `n`, or all if there are fewer.
-pub fn within(n: usize, s: &[u8]) -> usize
-    ensures { IsPrefixLen result s.now }
-{
-    if n < s.len() { n } else { s.len() }
-}
-
-// How many entries of a table are lent: `n`, or all if there are fewer.
-pub fn within_table(n: usize, t: &[u32]) -> usize
-    ensures { IsPrefixLen result t.now }
-{
-    if n < t.len() { n } else { t.len() }
+    // Runs a line and writes its output; `aloud` and `quiet` have none.
+    pub fn run(&mut self, out: &mut impl Write, line: &[u8]) -> io::Result<()> {
+        let verb = Verb::of(text_lines::word(line, 0));
+        match verb {
+            Verb::Call(call) => self.call(call, line)?,
+            Verb::Change(change) => self.change(change, line)?,
+            Verb::Aloud | Verb::Quiet => {
+                self.aloud = verb == Verb::Aloud;
+                return Ok(());
+            }
+            Verb::Look(_) | Verb::Remark => {}
+        }
+        told::line(out, self, verb, line)
+    }
 }

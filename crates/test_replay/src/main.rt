@@ -5,23 +5,28 @@ mod calls;
 mod changes;
 mod desk;
 mod fields;
-mod list;
+mod lent;
 mod looks;
-mod properties;
-mod room;
 mod told;
 mod verbs;
 
+use desk::Desk;
+use std::io;
+use std::io::{BufWriter, Write};
+use text_lines::{lists, said};
+
 // Reads the list and runs it.
-fn main(rt: HostRuntime) {
-    let mut input = text_words::input::room();
-    let n = text_words::input::read_full(&rt, &mut input);
-    if n == 1_048_576 {
-        text_lines::said::text(
-            &rt,
-            b"the list is longer than 1048575 bytes: nothing was run\n",
-        );
-        return;
+fn run(rt: &HostRuntime) -> io::Result<()> {
+    let mut out = BufWriter::new(rt.alloc(), io::writer(rt))?;
+    if let Some(list) = lists::read(rt, &mut out)? {
+        let mut desk = Desk::new(rt.alloc())?;
+        for line in list.split_inclusive(|b| *b == b'\n') {
+            desk.run(&mut out, line.strip_suffix(b"\n").unwrap_or(line))?;
+        }
     }
-    list::each(&rt, &input[..n]);
+    out.flush()
+}
+
+fn main(rt: HostRuntime) -> io::Result<()> {
+    said::ended(run(&rt))
 }

@@ -1,60 +1,66 @@
 // The output for a line.
 use crate::desk::Desk;
-use crate::{fields, looks, verbs};
+use crate::verbs::{Call, Verb};
+use crate::{fields, looks};
+use std::io;
+use std::io::Write;
 use text_lines::{said, sums};
 
-// The check values of what a call was lent.
-fn checks(d: Desk) -> [u64; 3] {
-    let blob = d.blob;
-    let strings = d.strings;
-    let phandles = d.phandles;
-    [
-        sums::bytes(&blob, d.blob_lent),
-        sums::bytes(&strings, d.strings_lent),
-        sums::table(&phandles, d.phandles_lent),
-    ]
-}
-
 // A report: what a call answered, the record's fields, and the check values of what it was lent.
-fn report(rt: &HostRuntime, d: Desk) {
-    said::numbers(rt, &[d.number as u64, d.handle as u64], false);
-    said::numbers(rt, &fields::apart(d.writer.0), true);
-    said::numbers(rt, &checks(d), true);
+fn report(out: &mut impl Write, d: &Desk) -> io::Result<()> {
+    let (number, handle) = (d.number, d.handle);
+    write!(out, "{number} {handle}")?;
+    said::numbers(out, &fields::apart(d.writer.0), true)?;
+    let checks = [
+        sums::bytes(d.blob.front()),
+        sums::bytes(d.strings.front()),
+        sums::table(d.phandles.front()),
+    ];
+    said::numbers(out, &checks, true)
 }
 
 // What a call answered, and the handle if it begins a node.
-fn answer(rt: &HostRuntime, verb: usize, number: u64, handle: u64) {
-    said::gap(rt, true);
-    said::number(rt, number);
-    if verb == verbs::BEGIN_NODE {
-        said::text(rt, b" handle ");
-        said::number(rt, handle);
+fn answer(out: &mut impl Write, d: &Desk, call: Call) -> io::Result<()> {
+    let (number, handle) = (d.number, d.handle);
+    write!(out, " {number}")?;
+    if call == Call::BeginNode {
+        write!(out, " handle {handle}")?;
     }
+    Ok(())
 }
 
-// Writes a line again, in the mode `aloud`.
-fn again(rt: &HostRuntime, aloud: bool, verb: usize, line: &[u8]) {
-    if aloud {
-        said::text(rt, line);
-        if verb < verbs::BUFFERS {
-            said::text(rt, b":");
+// Writes a line again, and what it asks for, in the mode `aloud`.
+fn aloud(out: &mut impl Write, d: &Desk, verb: Verb, line: &[u8]) -> io::Result<()> {
+    out.write_all(line)?;
+    match verb {
+        Verb::Call(call) => {
+            out.write_all(b":")?;
+            answer(out, d, call)?;
         }
+        Verb::Look(look) => {
+            out.write_all(b":")?;
+            looks::run(out, d, look, line)?;
+        }
+        _ => {}
     }
+    out.write_all(b"\n")
+}
+
+// Writes what a line asks for, in the mode `quiet`.
+fn quiet(out: &mut impl Write, d: &Desk, verb: Verb, line: &[u8]) -> io::Result<()> {
+    match verb {
+        Verb::Call(_) => report(out, d)?,
+        Verb::Look(look) => looks::run(out, d, look, line)?,
+        _ => return Ok(()),
+    }
+    out.write_all(b"\n")
 }
 
 // Writes the output for a line that was run.
-pub fn line(rt: &HostRuntime, d: Desk, verb: usize, line: &[u8]) {
-    again(rt, d.aloud, verb, line);
-    if verbs::SHOW <= verb {
-        if verb < verbs::BUFFERS {
-            looks::run(rt, d, verb, line);
-        }
-    } else if d.aloud {
-        answer(rt, verb, d.number as u64, d.handle as u64);
+pub fn line(out: &mut impl Write, d: &Desk, verb: Verb, line: &[u8]) -> io::Result<()> {
+    if d.aloud {
+        aloud(out, d, verb, line)
     } else {
-        report(rt, d);
-    }
-    if d.aloud || verb < verbs::BUFFERS {
-        said::text(rt, b"\n");
+        quiet(out, d, verb, line)
     }
 }

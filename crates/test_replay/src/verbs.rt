@@ -1,75 +1,98 @@
-// What a line asks for, by its first word: the word's place in the list below.
+// What a line asks for, by its first word.
+
+// The calls that write a property and take its name.
+#[derive(Clone, Copy, PartialEq, Eq)]
+pub enum Kind {
+    Bytes,
+    Null,
+    String,
+    StringList,
+    U32,
+    U64,
+    ArrayU32,
+    ArrayU64,
+}
 
 // The writer's calls.
-pub const NEW: usize = 0;
-
-pub const NEW_WITH_MEM_RESERV: usize = 1;
-
-pub const SET_BOOT_CPUID_PHYS: usize = 2;
-
-pub const BEGIN_NODE: usize = 3;
-
-pub const END_NODE: usize = 4;
-
-pub const FINISH: usize = 5;
-
-pub const PROPERTY_PHANDLE: usize = 6;
-
-pub const PROPERTY: usize = 7;
-
-pub const PROPERTY_NULL: usize = 8;
-
-pub const PROPERTY_STRING: usize = 9;
-
-pub const PROPERTY_STRING_LIST: usize = 10;
-
-pub const PROPERTY_U32: usize = 11;
-
-pub const PROPERTY_U64: usize = 12;
-
-pub const PROPERTY_ARRAY_U32: usize = 13;
-
-pub const PROPERTY_ARRAY_U64: usize = 14;
+#[derive(Clone, Copy, PartialEq, Eq)]
+pub enum Call {
+    New,
+    NewWithMemReserv,
+    SetBootCpuidPhys,
+    BeginNode,
+    EndNode,
+    Finish,
+    PropertyPhandle,
+    Property(Kind),
+}
 
 // What is looked at.
-pub const SHOW: usize = 15;
+#[derive(Clone, Copy, PartialEq, Eq)]
+pub enum Look {
+    Show,
+    Record,
+    Blob,
+    Strings,
+    Phandles,
+    Fields,
+}
 
-pub const RECORD: usize = 16;
+// What the next calls are given.
+#[derive(Clone, Copy, PartialEq, Eq)]
+pub enum Change {
+    Buffers,
+    Lend,
+    PutBlob,
+    PutStrings,
+    PutPhandles,
+    Set,
+}
 
-pub const BLOB: usize = 17;
+// A call, a look, a change, how the lines after it are reported, or a remark.
+#[derive(Clone, Copy, PartialEq, Eq)]
+pub enum Verb {
+    Call(Call),
+    Look(Look),
+    Change(Change),
+    Aloud,
+    Quiet,
+    Remark,
+}
 
-pub const STRINGS: usize = 18;
-
-pub const PHANDLES: usize = 19;
-
-pub const FIELDS: usize = 20;
-
-// What the next calls are given, and how they are reported.
-pub const BUFFERS: usize = 21;
-
-pub const LEND: usize = 22;
-
-pub const PUT_BLOB: usize = 23;
-
-pub const PUT_STRINGS: usize = 24;
-
-pub const PUT_PHANDLES: usize = 25;
-
-pub const SET: usize = 26;
-
-pub const ALOUD: usize = 27;
-
-pub const QUIET: usize = 28;
-
-// Any other line.
-pub const REMARK: usize = 29;
-
-// What a line asks for.
-pub fn asked(line: &[u8]) -> usize {
-    let list = b"new new_with_mem_reserv set_boot_cpuid_phys begin_node end_node finish \
-        property_phandle property property_null property_string property_string_list \
-        property_u32 property_u64 property_array_u32 property_array_u64 \
-        show record blob strings phandles fields \
-        buffers lend put_blob put_strings put_phandles set aloud quiet";
-    text_words::place(list, REMARK, text_words::word(line, 0))
+impl Verb {
+    // The verb that a word names.
+    pub fn of(word: &[u8]) -> Verb {
+        match word {
+            b"new" => Verb::Call(Call::New),
+            b"new_with_mem_reserv" => Verb::Call(Call::NewWithMemReserv),
+            b"set_boot_cpuid_phys" => Verb::Call(Call::SetBootCpuidPhys),
+            b"begin_node" => Verb::Call(Call::BeginNode),
+            b"end_node" => Verb::Call(Call::EndNode),
+            b"finish" => Verb::Call(Call::Finish),
+            b"property_phandle" => Verb::Call(Call::PropertyPhandle),
+            b"property" => Verb::Call(Call::Property(Kind::Bytes)),
+            b"property_null" => Verb::Call(Call::Property(Kind::Null)),
+            b"property_string" => Verb::Call(Call::Property(Kind::String)),
+            b"property_string_list" => Verb::Call(Call::Property(Kind::StringList)),
+            b"property_u32" => Verb::Call(Call::Property(Kind::U32)),
+            b"property_u64" => Verb::Call(Call::Property(Kind::U64)),
+            b"property_array_u32" => Verb::Call(Call::Property(Kind::ArrayU32)),
+            b"property_array_u64" => Verb::Call(Call::Property(Kind::ArrayU64)),
+            b"show" => Verb::Look(Look::Show),
+            b"record" => Verb::Look(Look::Record),
+            b"blob" => Verb::Look(Look::Blob),
+            b"strings" => Verb::Look(Look::Strings),
+            b"phandles" => Verb::Look(Look::Phandles),
+            b"fields" => Verb::Look(Look::Fields),
+            b"buffers" => Verb::Change(Change::Buffers),
+            b"lend" => Verb::Change(Change::Lend),
+            b"put_blob" => Verb::Change(Change::PutBlob),
+            b"put_strings" => Verb::Change(Change::PutStrings),
+            b"put_phandles" => Verb::Change(Change::PutPhandles),
+            b"set" => Verb::Change(Change::Set),
+            b"aloud" => Verb::Aloud,
+            b"quiet" => Verb::Quiet,
+            _ => Verb::Remark,
+        }
+    }
 }
