@@ -34,7 +34,6 @@ pub enum Cause<'a> {
         name: &'a [u8],
         given: usize,
     },
-    OutOfMemory,
 }
 
 impl From<AllocError> for Failure<'_> {
@@ -80,7 +79,6 @@ impl Display for Cause<'_> {
                     "{call} refused {number}, {path} already has {name} (line {given})"
                 )
             }
-            Cause::OutOfMemory => f.write_str("out of memory"),
         }
     }
 }

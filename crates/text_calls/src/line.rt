@@ -115,16 +115,16 @@ pub fn read<'a>(alloc: Global, line: &'a [u8]) -> Result<Option<Call<'a>>, Wrong
     let Some(verb) = Verb::of(word) else {
         return Err(Wrong::NoCall);
     };
-    Values { verb, text }.call(alloc).map(Some)
+    Values { alloc, verb, text }.call().map(Some)
 }
 
 impl<'a> Values<'a> {
     // The call with what the line gives it.
-    fn call(self, alloc: Global) -> Result<Call<'a>, Wrong> {
+    fn call(self) -> Result<Call<'a>, Wrong> {
         match self.verb {
-            Verb::Reserve => self.reservation(alloc),
-            Verb::Boot => Ok(Call::Boot(self.one(alloc)?)),
-            Verb::Phandle => Ok(Call::Phandle(self.one(alloc)?)),
+            Verb::Reserve => self.reservation(),
+            Verb::Boot => Ok(Call::Boot(self.one()?)),
+            Verb::Phandle => Ok(Call::Phandle(self.one()?)),
             Verb::End => {
                 self.none()?;
                 Ok(Call::End)
@@ -136,14 +136,14 @@ impl<'a> Values<'a> {
             }
             Verb::Property(kind) => {
                 let (name, others) = self.named()?;
-                Ok(Call::Property(name, others.value(alloc, kind)?))
+                Ok(Call::Property(name, others.value(kind)?))
             }
         }
     }
 
     // A reservation: its address and its size.
-    fn reservation(self, alloc: Global) -> Result<Call<'a>, Wrong> {
-        match self.each(alloc, wide_cell)?.as_slice() {
+    fn reservation(self) -> Result<Call<'a>, Wrong> {
+        match self.each(wide_cell)?.as_slice() {
             [address, size] => Ok(Call::Reserve {
                 address: *address,
                 size: *size,
@@ -161,22 +161,22 @@ impl<'a> Values<'a> {
     }
 
     // The value of a property.
-    fn value(self, alloc: Global, kind: Kind) -> Result<Value, Wrong> {
+    fn value(self, kind: Kind) -> Result<Value, Wrong> {
         match kind {
             Kind::Null => {
                 self.none()?;
-                Ok(Value::Bytes(Vec::new(alloc)))
+                Ok(Value::Bytes(Vec::new(self.alloc)))
             }
-            Kind::Bytes => Ok(Value::Bytes(self.some(alloc, byte)?)),
-            Kind::U32 => Ok(Value::Cells(self.some(alloc, cell)?)),
-            Kind::U64 => Ok(Value::WideCells(self.some(alloc, wide_cell)?)),
-            Kind::String | Kind::Strings => self.string_value(alloc, kind),
+            Kind::Bytes => Ok(Value::Bytes(self.some(byte)?)),
+            Kind::U32 => Ok(Value::Cells(self.some(cell)?)),
+            Kind::U64 => Ok(Value::WideCells(self.some(wide_cell)?)),
+            Kind::String | Kind::Strings => self.string_value(kind),
         }
     }
 
     // One string, or at least one.
-    fn string_value(self, alloc: Global, kind: Kind) -> Result<Value, Wrong> {
-        let strings = self.strings(alloc)?;
+    fn string_value(self, kind: Kind) -> Result<Value, Wrong> {
+        let strings = self.strings()?;
         match strings.lengths.as_slice() {
             [] => Err(self.wrong()),
             [_, _, ..] if kind == Kind::String => Err(self.wrong()),

@@ -1,9 +1,16 @@
-// The nodes that are open after some lines of a list. Every line is a call that was accepted, or no call.
+// The nodes that are open after some lines of a list.
 use crate::line;
 use crate::verbs::Verb;
 use std::alloc::{AllocError, Global};
 use std::fmt;
 use std::fmt::{Display, Formatter, Write};
+
+// The first lines of a list, so many. Each is a call that was accepted, or no call.
+#[derive(Clone, Copy)]
+pub struct Lines<'a> {
+    pub list: &'a [u8],
+    pub count: usize,
+}
 
 // The names of the open nodes, outermost first.
 #[derive(Drop)]
@@ -48,29 +55,31 @@ fn property(line: &[u8]) -> Option<&[u8]> {
     }
 }
 
-// The number of the last of the first `count` lines that gives a property of this name.
-pub fn given(list: &[u8], count: usize, name: &[u8]) -> Option<usize> {
-    (1..)
-        .zip(list.split_inclusive(|b| *b == b'\n').take(count))
-        .filter(|(_, line)| property(line) == Some(name))
-        .map(|(n, _)| n)
-        .last()
-}
-
-// The nodes that are open after the first `count` lines.
-pub fn open<'a>(alloc: Global, list: &'a [u8], count: usize) -> Result<Path<'a>, AllocError> {
-    let mut names = Vec::new(alloc);
-    for line in list.split_inclusive(|b| *b == b'\n').take(count) {
-        let Some((word, text)) = line::head(line) else {
-            continue;
-        };
-        match (Verb::of(word), line::name(text)) {
-            (Some(Verb::Begin), Some((name, _))) => names.push(name)?,
-            (Some(Verb::End), _) => {
-                names.pop();
-            }
-            _ => {}
-        }
+impl<'a> Lines<'a> {
+    // The number of the last line that gives a property of this name.
+    pub fn given(self, name: &[u8]) -> Option<usize> {
+        (1..)
+            .zip(self.list.split_inclusive(|b| *b == b'\n').take(self.count))
+            .filter(|(_, line)| property(line) == Some(name))
+            .map(|(n, _)| n)
+            .last()
     }
-    Ok(Path { names })
+
+    // The nodes that are open after the lines.
+    pub fn open(self, alloc: Global) -> Result<Path<'a>, AllocError> {
+        let mut names = Vec::new(alloc);
+        for line in self.list.split_inclusive(|b| *b == b'\n').take(self.count) {
+            let Some((word, text)) = line::head(line) else {
+                continue;
+            };
+            match (Verb::of(word), line::name(text)) {
+                (Some(Verb::Begin), Some((name, _))) => names.push(name)?,
+                (Some(Verb::End), _) => {
+                    names.pop();
+                }
+                _ => {}
+            }
+        }
+        Ok(Path { names })
+    }
 }

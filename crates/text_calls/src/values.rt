@@ -21,6 +21,7 @@ pub struct Strings {
 // What a line gives to its call.
 #[derive(Clone, Copy)]
 pub(crate) struct Values<'a> {
+    pub alloc: Global,
     pub verb: Verb,
     pub text: &'a [u8],
 }
@@ -40,16 +41,12 @@ impl Values<'_> {
     }
 
     // Each word up to a comment as a value.
-    pub(crate) fn each<T: Drop, F: Fn(&[u8]) -> Option<T>>(
-        self,
-        alloc: Global,
-        read: F,
-    ) -> Result<Vec<T>, Wrong>
+    pub(crate) fn each<T: Drop, F: Fn(&[u8]) -> Option<T>>(self, read: F) -> Result<Vec<T>, Wrong>
     where
         F: Drop,
         requires { F.IsAlwaysCallable read }
     {
-        let mut values = Vec::new(alloc);
+        let mut values = Vec::new(self.alloc);
         for word in self.text.split(|b| blank(*b)) {
             if word.starts_with(b"#") {
                 break;
@@ -65,16 +62,12 @@ impl Values<'_> {
     }
 
     // The same, at least one.
-    pub(crate) fn some<T: Drop, F: Fn(&[u8]) -> Option<T>>(
-        self,
-        alloc: Global,
-        read: F,
-    ) -> Result<Vec<T>, Wrong>
+    pub(crate) fn some<T: Drop, F: Fn(&[u8]) -> Option<T>>(self, read: F) -> Result<Vec<T>, Wrong>
     where
         F: Drop,
         requires { F.IsAlwaysCallable read }
     {
-        let values = self.each(alloc, read)?;
+        let values = self.each(read)?;
         if values.is_empty() {
             return Err(self.wrong());
         }
@@ -82,17 +75,17 @@ impl Values<'_> {
     }
 
     // One number of 4 bytes.
-    pub(crate) fn one(self, alloc: Global) -> Result<u32, Wrong> {
-        match self.each(alloc, cell)?.as_slice() {
+    pub(crate) fn one(self) -> Result<u32, Wrong> {
+        match self.each(cell)?.as_slice() {
             [n] => Ok(*n),
             _ => Err(self.wrong()),
         }
     }
 
     // The strings up to a comment.
-    pub(crate) fn strings(self, alloc: Global) -> Result<Strings, Wrong> {
-        let mut bytes = Vec::new(alloc);
-        let mut lengths = Vec::new(alloc);
+    pub(crate) fn strings(self) -> Result<Strings, Wrong> {
+        let mut bytes = Vec::new(self.alloc);
+        let mut lengths = Vec::new(self.alloc);
         let mut rest = trimmed(self.text);
         while let [b'"', text @ ..] = rest {
             let start = bytes.len();
