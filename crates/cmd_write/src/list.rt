@@ -50,12 +50,7 @@ fn run_line<'a>(
 }
 
 // Why a call is refused, after the lines before it.
-fn refused<'a>(
-    alloc: Global,
-    before: Lines<'a>,
-    call: &Call<'a>,
-    error: Error,
-) -> Cause<'a> {
+fn refused<'a>(alloc: Global, before: Lines<'a>, call: &Call<'a>, error: Error) -> Cause<'a> {
     if error == Error::DuplicateProperty
         && let Some(name) = call.property()
         && let Some(given) = before.given(name)
