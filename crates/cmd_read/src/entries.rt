@@ -3,7 +3,10 @@ use fdt_reader::{ReadError, Values};
 use std::fmt;
 use std::fmt::{Display, Formatter, Write};
 
-// The answer of the reader, and the list of its entries, four numbers each.
+// The numbers of an entry: its token, its place, the place of its name and the length of its value.
+pub const NUMBERS: usize = 4;
+
+// The answer of the reader, and the list of its entries.
 #[derive(Clone, Copy)]
 pub struct Entries<'a> {
     pub answer: Result<Values, ReadError>,
@@ -20,7 +23,7 @@ impl Display for Entries<'_> {
             "{number} {} {} {}",
             values.boot, values.reservations, values.entries
         )?;
-        let (entries, _) = self.list.as_chunks::<4>();
+        let (entries, _) = self.list.as_chunks::<NUMBERS>();
         for [token, place, name, size] in entries {
             writeln!(f, "{token} {place} {name} {size}")?;
         }

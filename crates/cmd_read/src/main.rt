@@ -8,7 +8,7 @@ mod failure;
 mod tree;
 
 use cause::Cause;
-use entries::Entries;
+use entries::{Entries, NUMBERS};
 use failure::Failure;
 use std::env::Env;
 use std::fmt::Display;
@@ -56,7 +56,7 @@ fn read<R: Print + Eprint + AllocGlobal>(
 ) -> Result<(), Failure> {
     match fdt_reader::survey(blob) {
         Ok(seen) => {
-            let mut list = vec![in rt.alloc(); 0; seen.entries.saturating_mul(4)]?;
+            let mut list = vec![in rt.alloc(); 0; seen.entries.saturating_mul(NUMBERS)]?;
             let answer = fdt_reader::read(blob, &mut list);
             let list = &list;
             if as_entries {

@@ -1,11 +1,12 @@
 // The tree of a blob, from the reader's entries.
+use crate::entries::NUMBERS;
 use fdt_format::{FDT_BEGIN_NODE, FDT_PROP};
 use fdt_reader::Surveyed;
 use std::fmt;
 use std::fmt::{Display, Formatter, Write};
 use text_source::{Indent, Name, NodeName, Value};
 
-// A blob, its survey, and the list of its entries, four numbers each.
+// A blob, its survey, and the list of its entries.
 #[derive(Clone, Copy)]
 pub struct Tree<'a> {
     pub blob: &'a [u8],
@@ -37,7 +38,7 @@ impl Tree<'_> {
 
     // The lines of the nodes. An empty line comes before each but the first.
     fn nodes<W: Write>(&self, f: &mut Formatter<W>) -> fmt::Result {
-        let (entries, _) = self.list.as_chunks::<4>();
+        let (entries, _) = self.list.as_chunks::<NUMBERS>();
         let mut depth: usize = 0;
         for (n, [token, place, name, size]) in entries.iter().enumerate() {
             match *token {
