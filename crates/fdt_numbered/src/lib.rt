@@ -1,5 +1,5 @@
 // The calls of the writer with their answers as the numbers of documents 01 and 02: for callers that have no enums, such as C.
-#![tactic(auto)]
+#![tactic(auto, using(crate::proofs::Made::called_made))]
 
 ghost use Rattle.std.specs.Prelude.{◌≡◌, List, ℕ};
 ghost use Rattle.fdt_calls.specs.Calls.{new, new_with_mem_reserv, set_boot_cpuid_phys, begin_node, end_node, property, property_null, property_string, property_string_list, property_u32, property_u64, property_array_u32, property_array_u64, property_phandle, finish};

@@ -1,6 +1,0 @@
--- `new` meets its contract: the writer's call ensures it of the answer, whose number is returned.
-use Rattle.fdt_numbered.proofs.Made.{called_made}
-use Rattle.fdt_numbered.proofs.new.Goals as goal
-
-pub returns : goal.returns
-returns c = called_made (c.new.ensures _) c.into.ensures
