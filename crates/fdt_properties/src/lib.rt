@@ -14,6 +14,9 @@ use fdt_format::FDT_PROP;
 use fdt_record::{Error, Record};
 use fdt_strings::Interned;
 
+// How many bytes the three words of a property take.
+const WORDS: usize = 12;
+
 // What the tests find: the name's place, how many bytes the value takes, and the record after the call.
 #[derive(Clone, Copy)]
 struct Tested {
@@ -97,7 +100,7 @@ fn after_property(w: Record, len: usize, added: usize) -> Record
     ensures { result ≡ with_used_strings (w.strings_used + added) (with_used_blob (w.blob_used + (12 + round_up 4 len)) w) }
 {
     Record {
-        blob_used: w.blob_used + (12 + fdt_bytes::round_up(len, 4)),
+        blob_used: w.blob_used + (WORDS + fdt_bytes::round_up(len, 4)),
         strings_used: w.strings_used + added,
         ..w
     }
@@ -143,7 +146,7 @@ fn put_frame(blob: &mut [u8], used: usize, offset: usize, len: usize, end: usize
     ensures { blob.new ≡ framed used offset len end blob.old }
 {
     fdt_splice::cells_at(blob, used, &[FDT_PROP, len as u32, offset as u32]);
-    let behind = used + 12 + len;
+    let behind = used + WORDS + len;
     fdt_splice::zeros_at(blob, behind, end - behind);
 }
 
@@ -167,7 +170,7 @@ pub fn property_placeholder(
     store_name(strings, tested.place, name);
     put_frame(blob, used, offset, tested.len, after.blob_used);
     Ok(Placed {
-        at: used + 12,
+        at: used + WORDS,
         after,
     })
 }
