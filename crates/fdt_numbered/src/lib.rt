@@ -1,4 +1,5 @@
 // The calls of the writer with their answers as the numbers of documents 01 and 02: for callers that have no enums, such as C.
+// Each is the C function of its name before the writer is stored, so none is generic.
 #![tactic(auto, using(crate::proofs::Made::called_made))]
 
 ghost use Rattle.std.specs.Prelude.{◌≡◌, List, ℕ};

@@ -38,6 +38,7 @@ impl<T: Copy> From<Outcome<T>> for Answered<T> {
 
 // Each statement says that the call of that name was made (`Called` in crates/fdt_calls/specs): it gives the call's answer, and leaves
 // the call's record and bytes. It holds for any buffers that the method is not lent and, of an opening, for any record before it.
+// The names are those of the original crate's methods, so numbers of 4 and of 8 bytes have methods of their own.
 impl FdtWriter {
     // Opens a writer over a blob buffer, a string buffer and a table of phandles, with no memory reservations.
     // Refused 14 only. A refused opening returns a closed writer, which every call except `show` refuses.
