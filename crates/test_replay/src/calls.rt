@@ -36,10 +36,8 @@ impl Desk {
     // Begins a node.
     fn begin_node(&mut self, name: &[u8]) {
         let a = self.writer.begin_node(self.blob.front_mut(), name);
-        self.keep(a);
-        if let Ok(FdtWriterNode(handle)) = a.answer {
-            self.handle = handle;
-        }
+        self.writer = a.writer;
+        self.answer = a.answer.map(|node| node.0);
     }
 
     // Ends a node by the number of a handle.

@@ -2,6 +2,7 @@
 use crate::lent::Lent;
 use crate::told;
 use crate::verbs::Verb;
+use fdt_record::Error;
 use fdt_writer::{Answered, FdtWriter};
 use std::alloc::{AllocError, Global};
 use std::io;
@@ -19,13 +20,12 @@ pub const MARK: u8 = 0xee;
 
 pub const WIDE_MARK: u32 = 0xeeee_eeee;
 
-// A writer; its last answer's number, and the handle that it gave or 0; the arrays; whether lines are written again.
+// A writer; its last answer, with the number of the handle that it gave or 0; the arrays; whether lines are written again.
 #[derive(Drop)]
 pub struct Desk {
     pub alloc: Global,
     pub writer: FdtWriter,
-    pub number: u32,
-    pub handle: usize,
+    pub answer: Result<usize, Error>,
     pub blob: Lent<u8>,
     pub strings: Lent<u8>,
     pub phandles: Lent<u32>,
@@ -38,8 +38,7 @@ impl Desk {
         Ok(Desk {
             alloc,
             writer: FdtWriter::new(&mut [], &[], &[]).writer,
-            number: 0,
-            handle: 0,
+            answer: Ok(0),
             blob: Lent::new(alloc, BLOB, MARK)?,
             strings: Lent::new(alloc, STRINGS, MARK)?,
             phandles: Lent::new(alloc, PHANDLES, WIDE_MARK)?,
@@ -47,11 +46,10 @@ impl Desk {
         })
     }
 
-    // Keeps an answer, without its handle.
-    pub fn keep<T: Copy>(&mut self, a: Answered<T>) {
+    // Keeps an answer without a handle.
+    pub fn keep(&mut self, a: Answered<()>) {
         self.writer = a.writer;
-        self.number = fdt_record::number(a.answer);
-        self.handle = 0;
+        self.answer = a.answer.map(|()| 0);
     }
 
     // Runs a line and writes its output; `aloud` and `quiet` have none.

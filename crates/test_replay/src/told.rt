@@ -8,7 +8,8 @@ use text_lines::{said, sums};
 
 // A report: what a call answered, the record's fields, and the check values of what it was lent.
 fn report(out: &mut impl Write, d: &Desk) -> io::Result<()> {
-    let (number, handle) = (d.number, d.handle);
+    let number = fdt_record::number(d.answer);
+    let handle = d.answer.unwrap_or(0);
     write!(out, "{number} {handle}")?;
     said::numbers(out, &fields::apart(d.writer.0), true)?;
     let checks = [
@@ -21,9 +22,10 @@ fn report(out: &mut impl Write, d: &Desk) -> io::Result<()> {
 
 // What a call answered, and the handle if it begins a node.
 fn answer(out: &mut impl Write, d: &Desk, call: Call) -> io::Result<()> {
-    let (number, handle) = (d.number, d.handle);
+    let number = fdt_record::number(d.answer);
     write!(out, " {number}")?;
     if call == Call::BeginNode {
+        let handle = d.answer.unwrap_or(0);
         write!(out, " handle {handle}")?;
     }
     Ok(())
