@@ -1,13 +1,11 @@
 -- Laws of `specs/Grammar.antt`: what `in_two` means, a loop over every byte, and a match by its first byte.
-use Prim.Native.Nat.{ℕ, suc, ◌+◌, ◌<◌}
-use native.Mathlib.Numerals.{add-one}
+use Prim.Native.Nat.{ℕ, suc}
 use mathlib.Core.Path.{◌≡◌, refl, ap, ◌∙◌}
-use mathlib.Core.Bool.{Bool, true, false, ◌&&◌, ◌||◌, and-eq-true_iff, and_assoc, and-false, and-true, or-false, or-true}
+use mathlib.Core.Bool.{Bool, true, false, ◌&&◌, ◌||◌, and-eq-true_iff, and-false, or-false, or-true}
 use mathlib.Core.List.{List, [], ◌∷◌, ◌++◌}
 use mathlib.Core.Logic.{◌⊎◌, inl, inr, ◌↔◌}
 use lib.Dec.{leb, leb-zero, leb-suc-zero, leb-suc-suc, eqb-suc-zero}
-use lib.ListN.{length, take, get_or}
-use lib.Seq.{take-suc}
+use lib.ListN.{length}
 use Rattle.fdt_names.specs.Grammar.{Grammar, empty, from_to, ◌then◌, ◌or◌, all, in_two, matches}
 
 -- s in two parts: the first passes p, and the rest passes q
@@ -62,21 +60,6 @@ in_two_and false p q s = in_two_none q s
 pub and_swap : (c a d : Bool) → (a && (c && d)) ≡ (c && (a && d))
 and_swap true a d = refl
 and_swap false a d = and-false a
-
--- one more byte at the end is one more test
-all-last : (class : ℕ → Bool) (s : List ℕ) (b : ℕ) → all class (s ++ b ∷ []) ≡ (all class s && class b)
-unfolding all
-all-last class [] b = and-true (class b)
-all-last class (x ∷ s) b = rw (all-last class s b, and_assoc)
-
--- one turn of a loop over every byte: those before i, then the byte at i
-pub all-next :
-    (class : ℕ → Bool) (s : List ℕ) (i : ℕ) {good next : Bool} →
-    i < length s →
-    good ≡ all class (take i s) →
-    next ≡ class (get_or s i 0) →
-    (good && next) ≡ all class (take (i + 1) s)
-all-next class s i h e f = rw (add-one, take-suc s i 0 h, all-last, e, f)
 
 -- bytes of a class and then g
 module _ (class : ℕ → Bool) (g : Grammar) where

@@ -1,32 +1,34 @@
 -- Laws of `specs/Names.antt`: a loop decides `one_of`, and a node name is tested by the parts before and after its first @.
-use Prim.Native.Nat.{ℕ, zero, suc, ◌+◌, ◌-◌, ◌<◌, ◌≤◌}
+use Prim.Native.Nat.{ℕ, zero, suc, ◌+◌, ◌-◌, ◌<◌}
 use native.Mathlib.Numerals.{add-one, one-add}
 use native.Mathlib.Omega.{arith}
 use mathlib.Core.Path.{◌≡◌, refl, sym, ◌∙◌}
-use mathlib.Core.Bool.{Bool, true, false, not, ◌&&◌, ◌||◌, or-false, or_assoc, and_assoc}
-use mathlib.Core.List.{List, [], ◌∷◌, ◌++◌}
-use lib.Dec.{eqb, leb, leb-zero, leb-suc-zero, leb-suc-suc}
-use lib.ListN.{length, get_or, take, drop, drop_of_length-le}
-use lib.Seq.{take-suc, drop-cons}
-use borrow.Author.Tests.{eqb-true}
+use mathlib.Core.Bool.{Bool, true, false, not, cond, ◌&&◌, ◌||◌, or-false, and_assoc}
+use mathlib.Core.List.{List, [], ◌∷◌}
+use lib.Dec.{eqb, leb, ltb, leb-zero, leb-suc-zero, leb-suc-suc}
+use lib.ListN.{length, get_or, take, drop}
+use borrow.Author.Tests.{eqb-true, ltb-false}
+use Rattle.std.specs.Char.{is_ascii_alphanumeric}
+use Rattle.std.specs.List.{position_or_len, position}
+use Rattle.std.specs.Option.{unwrap_or}
+use Rattle.std.specs.Prelude.{Option, Some, None}
+use Rattle.std.proofs.lemmas.List.Sums.{prefix_len-le-length}
+use Rattle.std.proofs.lemmas.List.Recursion.{is_position_or_len}
 use Rattle.fdt_names.specs.Grammar.{Grammar, empty, from_to, any, ◌then◌, ◌or◌, all, in_two, matches}
 use Rattle.fdt_names.specs.Index.{index_after, index_of}
 use Rattle.fdt_names.specs.Names.{is, one_of, letter, digit, name_byte, node_byte, node_name, unit_address, has_zero}
 use Rattle.fdt_names.proofs.Grammar.{and_swap, none_then, more_then, one_then}
 
--- one more byte at the end is one more that b may be
-one_of-last : (s : List ℕ) (one b : ℕ) → one_of (s ++ one ∷ []) b ≡ (one_of s b || eqb one b)
-unfolding one_of
-one_of-last [] one b = or-false (eqb one b)
-one_of-last (x ∷ s) one b = rw (one_of-last s one b, or_assoc)
-
--- one turn of a loop that looks for b: in the bytes before k, then at k
-pub one_of-next :
-    (s : List ℕ) (b k : ℕ) {found : Bool} →
-    k < length s →
-    found ≡ one_of (take k s) b →
-    (found || eqb (get_or s k 0) b) ≡ one_of (take (k + 1) s) b
-one_of-next s b k h e = rw (add-one, take-suc s k 0 h, one_of-last, e)
+-- letters and digits as the standard library orders them, then a mark
+pub letter_or_digit : (b : ℕ) (mark : Bool) → (is_ascii_alphanumeric b || mark) ≡ (letter b || (digit b || mark))
+unfolding letter digit
+letter_or_digit b mark = swap (leb 48 b && leb b 57) (leb 65 b && leb b 90) (leb 97 b && leb b 122) mark
+  where
+    swap : (d u l m : Bool) → (((d || u) || l) || m) ≡ ((u || l) || (d || m))
+    swap true true l m = refl
+    swap true false true m = refl
+    swap true false false m = refl
+    swap false u l m = refl
 
 not_and : (a b : Bool) → not (not a && b) ≡ (a || not b)
 not_and true b = refl
@@ -75,20 +77,25 @@ unfolding index_of parts rest matches in_two all
 rest_parts [] m = simp leb-zero
 rest_parts (b ∷ s) m = at_first b s (rest_parts s) (eqb b 64) refl m
 
--- one step of a search for b: the byte at k is another one
-pub index_of-next : (s : List ℕ) (b k : ℕ) → k < length s → eqb (get_or s k 0) b ≡ false → k + index_of b (drop k s) ≡ k + 1 + index_of b (drop (k + 1) s)
+-- the place of the first byte that is b, as the standard library has it
+pub index_of-first : (b : ℕ) (s : List ℕ) → index_of b s ≡ position_or_len (λ c. eqb c b) s
 unfolding index_of index_after
-index_of-next s b k h e = rw (add-one, drop-cons s k 0 h, e) (omega arith)
+index_of-first b = is_position_or_len (index_of b) (λ c. eqb c b) refl (λ c s. step (eqb c b) (index_of b s))
+  where
+    step : (t : Bool) (k : ℕ) → index_after t k ≡ cond t 0 (1 + k)
+    step true k = refl
+    step false k = sym (one-add k)
 
--- the search ends at k: b is there
-pub index_of-here : (s : List ℕ) (b k : ℕ) → k < length s → eqb (get_or s k 0) b ≡ true → k + index_of b (drop k s) ≡ k
-unfolding index_of index_after
-index_of-here s b k h e = rw (drop-cons s k 0 h, e) (omega arith)
+-- where it is found, or the length
+pub index_of-position : (b : ℕ) (s : List ℕ) {o : Option ℕ} → o ≡ position (λ c. eqb c b) s → unwrap_or o (length s) ≡ index_of b s
+index_of-position b s e = rw e (at (ltb k (length s)) refl ∙ sym (index_of-first b s))
+  where
+    k : ℕ
+    k = position_or_len (λ c. eqb c b) s
 
--- the search ends at the end
-pub index_of-end : (s : List ℕ) (b k : ℕ) → length s ≤ k → k + index_of b (drop k s) ≡ k
-unfolding index_of
-index_of-end s b k h = rw (drop_of_length-le s h) (omega arith)
+    at : (t : Bool) → ltb k (length s) ≡ t → unwrap_or (cond t (Some k) None) (length s) ≡ k
+    at true e = refl
+    at false e = omega (arith, ltb-false k (length s) e, prefix_len-le-length (λ c. not (eqb c b)) s)
 
 -- a node name, cut at its first @ after the first byte or at its end
 pub name_parts :

@@ -1,5 +1,6 @@
 -- Grammars of bytes, and when bytes match a grammar.
-use Rattle.std.specs.Prelude.{ℕ, Bool, true, ◌&&◌, ◌||◌, List, [], ◌∷◌, length, eqb, leb}
+use Rattle.std.specs.Prelude.{ℕ, Bool, ◌&&◌, ◌||◌, List, [], ◌∷◌, length, eqb, leb}
+use Rattle.std.specs.List.{list_all}
 
 infixr 30 ◌then◌
 infixr 20 ◌or◌
@@ -18,8 +19,7 @@ pub data Grammar : Type 0 where
 
 -- every byte is of the class
 unfoldable pub all : (ℕ → Bool) → List ℕ → Bool
-all class [] = true
-all class (b ∷ s) = class b && all class s
+all class s = list_all class s
 
 -- s can be cut in two so that the first part passes p and the rest passes q
 unfoldable pub in_two : (List ℕ → Bool) → (List ℕ → Bool) → List ℕ → Bool

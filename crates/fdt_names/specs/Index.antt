@@ -1,5 +1,5 @@
 -- Where a list first has a byte.
-use Rattle.std.specs.Prelude.{ℕ, zero, suc, Bool, true, false, List, [], ◌∷◌, eqb}
+use Rattle.std.specs.Prelude.{ℕ, suc, Bool, true, false, List, [], ◌∷◌, eqb}
 
 -- 0 if the test holds, else one more than k
 unfoldable pub index_after : Bool → ℕ → ℕ

@@ -1,5 +1,6 @@
 -- The names of nodes and properties (document 01, "Names").
-use Rattle.std.specs.Prelude.{ℕ, Bool, false, not, ◌&&◌, ◌||◌, List, [], ◌∷◌, eqb, leb}
+use Rattle.std.specs.Prelude.{ℕ, Bool, not, ◌&&◌, ◌||◌, List, [], ◌∷◌, eqb, leb}
+use Rattle.std.specs.List.{list_any}
 use Rattle.fdt_names.specs.Grammar.{Grammar, empty, from_to, any, ◌then◌, ◌or◌, all}
 
 -- the byte is the given one
@@ -8,8 +9,7 @@ is one b = eqb b one
 
 -- the byte is one of the list
 unfoldable pub one_of : List ℕ → ℕ → Bool
-one_of [] b = false
-one_of (one ∷ more) b = eqb one b || one_of more b
+one_of s b = list_any (λ one. eqb one b) s
 
 -- A to Z and a to z
 unfoldable pub letter : ℕ → Bool

@@ -1,10 +1,10 @@
-// Tests of names: of nodes, of properties, and for a byte 0. Loops over bytes have no early exit, so that many can be tested at once; only the search for the @ has one.
+// Tests of names: of nodes, of properties, and for a byte 0.
 #![tactic(auto)]
 
-ghost use Rattle.std.specs.Prelude.{◌≡◌, ◌&&◌, ◌||◌, leb, ◌+◌, ◌<◌, ◌≤◌, length, drop};
+ghost use Rattle.std.specs.Prelude.{◌≡◌, ◌+◌, ◌<◌, ◌≤◌, length, drop, position, eqb};
 ghost use Rattle.fdt_names.specs.Grammar.{all, matches};
 ghost use Rattle.fdt_names.specs.Index.{index_of};
-ghost use Rattle.fdt_names.specs.Names.{letter, one_of, name_byte, node_name, property_name, has_zero};
+ghost use Rattle.fdt_names.specs.Names.{letter, name_byte, node_name, property_name, has_zero};
 
 // The greatest length of a node name, without its unit address.
 pub const NODE_NAME_MAX_LEN: usize = 31;
@@ -18,51 +18,34 @@ const NODE_NAME_MARKS: [u8; 5] = *b",._+-";
 // What a property name may have besides letters and digits.
 const PROPERTY_NAME_MARKS: [u8; 7] = *b",._+?#-";
 
-// Whether a byte is in a range, both ends included.
-fn within(c: u8, from: u8, to: u8) -> bool
-    ensures { result ≡ (leb from c && leb c to) }
-{
-    (from <= c) & (c <= to)
-}
-
-// Whether a byte is one of `s`.
-fn contains(s: &[u8], c: u8) -> bool
-    ensures { result ≡ one_of s.now c }
-{
-    let mut any = false;
-    let mut k = 0;
-    while k < s.len() {
-        any = any | (s[k] == c);
-        k += 1;
-    }
-    any
-}
-
 // Whether a byte is a letter.
+#[tactic(auto, unfolding(crate::specs::Names::letter))]
 fn node_name_valid_first_char(c: u8) -> bool
     ensures { result ≡ letter c }
 {
-    within(c, b'A', b'Z') | within(c, b'a', b'z')
+    c.is_ascii_alphabetic()
 }
 
 // Whether a byte is a letter, a digit or one of the marks.
 fn name_valid_char(c: u8, marks: &[u8]) -> bool
     ensures { result ≡ name_byte marks.now c }
 {
-    node_name_valid_first_char(c) | (within(c, b'0', b'9') | contains(marks, c))
+    c.is_ascii_alphanumeric() || marks.contains(&c)
 }
 
 // Whether every byte is a letter, a digit or one of the marks.
+#[tactic(auto, unfolding(crate::specs::Grammar::all))]
 fn all_valid_chars(s: &[u8], marks: &[u8]) -> bool
     ensures { result ≡ all (name_byte marks.now) s.now }
 {
-    let mut good = true;
-    let mut i = 0;
-    while i < s.len() {
-        good = good & name_valid_char(s[i], marks);
-        i += 1;
-    }
-    good
+    s.iter().all(|c| name_valid_char(*c, marks))
+}
+
+// The place of the first @.
+fn first_at(s: &[u8]) -> Option<usize>
+    ensures { result ≡ position (λ b. eqb b 64) s.now }
+{
+    s.iter().position(|c| *c == b'@')
 }
 
 // The place of the first @ after the first byte, or the end.
@@ -71,14 +54,8 @@ fn base_end(name: &[u8]) -> usize
     ensures value { result ≡ 1 + index_of 64 (drop 1 name.now) }
     ensures within { result ≤ length name.now }
 {
-    let mut at = 1;
-    while at < name.len() {
-        if name[at] == b'@' {
-            return at;
-        }
-        at += 1;
-    }
-    at
+    let rest = &name[1..];
+    1 + first_at(rest).unwrap_or(rest.len())
 }
 
 // Whether the bytes are a node name.
@@ -117,5 +94,5 @@ pub fn property_name_valid(name: &[u8]) -> bool
 pub fn has_zero(s: &[u8]) -> bool
     ensures { result ≡ has_zero s.now }
 {
-    contains(s, 0)
+    s.contains(&0)
 }

@@ -1,6 +1,6 @@
 -- `node_name_valid` meets its contract: the name is cut at its first @ or its end, and its parts are tested one after another.
 use mathlib.Core.Path.{◌≡◌, sym, ap, ◌∙◌}
-use mathlib.Core.Bool.{Bool, ◌&&◌, true, false, and-false}
+use mathlib.Core.Bool.{Bool, ◌&&◌, true, and-false}
 use mathlib.Core.List.{List}
 use Prim.Native.Nat.{ℕ, ◌+◌, ◌-◌, ◌≤◌, ◌<◌}
 use native.Mathlib.Omega.{arith}
