@@ -43,6 +43,7 @@ fn put_phandle(w: Record, blob: &mut [u8], strings: &mut [u8], val: u32) -> Outc
 }
 
 // Records a phandle and writes its property; the value is recorded even if the property is then refused.
+#[tactic(auto, using(crate::proofs::Phandles::record_fits), unfolding(crate::specs::Phandle::recorded, crate::specs::Phandle::phandle, crate::specs::Phandle::phandle_blob, crate::specs::Phandle::phandle_strings, crate::specs::Phandle::phandle_table, fdt_record::specs::Answers::accepts))]
 pub fn property_phandle(
     w: Record,
     blob: &mut [u8],

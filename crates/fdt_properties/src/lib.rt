@@ -54,7 +54,7 @@ fn name_tests(w: Record, name: &[u8]) -> Result<(), Error>
 
 // The place of the name, or its refusal: 20 if the open node already has a property of it, 15 if it is new and has no room. A name
 // has one of these or neither, so that either may be tested first.
-#[tactic(auto, unfolding(crate::specs::Property::place_of, crate::specs::Property::is_repeated, crate::specs::Property::is_known))]
+#[tactic(auto, using(crate::proofs::Places::found_place, crate::proofs::Places::known_place), unfolding(crate::specs::Property::place_of, crate::specs::Property::is_repeated, crate::specs::Property::is_known, crate::specs::Property::place_offset))]
 fn place_of(w: Record, blob: &[u8], strings: &[u8], name: &[u8]) -> Result<Interned, Error>
     requires start { w.node_start ≤ w.blob_used }
     requires within { w.blob_used ≤ length blob.now }
@@ -153,6 +153,7 @@ fn put_frame(blob: &mut [u8], used: usize, offset: usize, len: usize, end: usize
 // Makes all tests of a property and, if they are passed, writes everything except its value: its name, words and padding.
 // `value` is what the value's own tests find. Record and buffers are no struct: document 01's calls are lent the buffers one by one,
 // so that each call would only put them together and take them apart again.
+#[tactic(auto, using(crate::proofs::Filling::nothing_placed))]
 pub fn property_placeholder(
     w: Record,
     blob: &mut [u8],
