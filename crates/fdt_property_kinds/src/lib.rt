@@ -1,5 +1,5 @@
 // Writes a property of any kind of value: a placeholder, filled with bytes, numbers or strings.
-#![tactic(auto)]
+#![tactic(auto, using(crate::proofs::Lengths::lengths), unfolding(fdt_properties::specs::Placeholder::measure, fdt_values::specs::Value::misfit_value, fdt_values::specs::Value::zero_value, fdt_values::specs::Value::value_bytes, fdt_bytes::specs::BigEndian::cell_bytes))]
 
 ghost use Rattle.std.specs.Prelude.{◌≡◌, false, ◌+◌, ◌≤◌, ◌<◌, ◌^◌, length, IfOk};
 ghost use Rattle.fdt_bytes.specs.Splice.{splice};
@@ -31,12 +31,10 @@ pub trait PropertyValue: Copy {
 impl<'a> PropertyValue for &'a [u8] {
     ghost value = { λ s. raw s.now };
 
-    #[tactic(auto, unfolding(fdt_properties::specs::Placeholder::measure, fdt_values::specs::Value::misfit_value, fdt_values::specs::Value::zero_value, fdt_values::specs::Value::value_bytes))]
     fn measured(&self) -> Result<usize, Error> {
         Ok(self.len())
     }
 
-    #[tactic(auto, unfolding(fdt_values::specs::Value::value_bytes))]
     fn put(&self, blob: &mut [u8], at: usize) {
         fdt_splice::bytes_at(blob, at, self);
     }
@@ -50,7 +48,6 @@ impl<'a> PropertyValue for &'a [u32] {
         Ok(4 * self.len())
     }
 
-    #[tactic(auto, unfolding(fdt_values::specs::Value::value_bytes, fdt_bytes::specs::BigEndian::cell_bytes))]
     fn put(&self, blob: &mut [u8], at: usize) {
         fdt_splice::cells_at(blob, at, self);
     }
@@ -64,7 +61,6 @@ impl<'a> PropertyValue for &'a [u64] {
         Ok(8 * self.len())
     }
 
-    #[tactic(auto, unfolding(fdt_values::specs::Value::value_bytes, fdt_bytes::specs::BigEndian::cell_bytes))]
     fn put(&self, blob: &mut [u8], at: usize) {
         fdt_splice::cells_at(blob, at, self);
     }
@@ -80,7 +76,6 @@ pub struct Texts<'a> {
 impl<'a> PropertyValue for Texts<'a> {
     ghost value = { λ t. texts t.joined.now t.lengths.now };
 
-    #[tactic(auto, unfolding(fdt_properties::specs::Placeholder::measure, fdt_values::specs::Value::misfit_value, fdt_values::specs::Value::zero_value, fdt_values::specs::Value::value_bytes))]
     fn measured(&self) -> Result<usize, Error> {
         if !fdt_values::sums_to(self.lengths, self.joined.len()) {
             return Err(Error::Misfit);
@@ -91,7 +86,6 @@ impl<'a> PropertyValue for Texts<'a> {
         Ok(self.joined.len() + self.lengths.len())
     }
 
-    #[tactic(auto, unfolding(fdt_values::specs::Value::value_bytes))]
     fn put(&self, blob: &mut [u8], at: usize) {
         fdt_values::texts_at(blob, at, self.joined, self.lengths);
     }
