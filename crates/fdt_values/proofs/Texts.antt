@@ -4,7 +4,7 @@ use mathlib.Core.List.{List, ◌++◌}
 use Prim.Native.Nat.{ℕ, ◌+◌, ◌-◌, ◌≤◌, ◌<◌}
 use native.Mathlib.Omega.{arith}
 use lib.ListN.{length, take, drop, get_or, length-take, length-drop, take-append-drop}
-use lib.Seq.{length-take-le, take_all}
+use lib.Seq.{length-take-le}
 use Rattle.fdt_bytes.specs.Splice.{over, splice}
 use Rattle.fdt_bytes.proofs.Splice.{length-splice, splice-splice}
 use Rattle.fdt_strings.specs.Entries.{entry}
@@ -25,15 +25,11 @@ unfolding splice over text_bytes sum
 texts-written_none {at} {before = before} =
     record { within = omega arith; starts = refl; goes = omega arith; kept = refl; blob_is = sym (take-append-drop at before) }
 
-pub texts-written-all : {at : ℕ} {joined lengths before now : List ℕ} {to start i : ℕ} → TextsWritten at joined lengths before now to start i → length lengths ≤ i → now ≡ splice at (text_bytes joined lengths) before
-texts-written-all {at} {joined} {lengths} {before} {i = i} w h =
-    w.blob_is ∙ ap (λ (l : List ℕ). splice at (text_bytes joined l) before) (take_all i lengths h)
-
 -- the string at i, from `start` to where the next one starts, with its 0
 abbrev pub cut : (joined lengths : List ℕ) (start i : ℕ) → List ℕ
 cut joined lengths start i = entry (take (start + get_or lengths i 0 - start) (drop start joined))
 
-module _ {at : ℕ} {joined lengths before now : List ℕ} {to start i : ℕ} (room : (sum lengths ≡ length joined) × (at + (length joined + length lengths) ≤ length before)) (w : TextsWritten at joined lengths before now to start i) (next : i < length lengths) where
+module _ {at : ℕ} {joined lengths before now : List ℕ} {to start i : ℕ} (sums : sum lengths ≡ length joined) (room : at + (length joined + length lengths) ≤ length before) (w : TextsWritten at joined lengths before now to start i) (next : i < length lengths) where
   -- the next string ends within the joined bytes
   pub next-within : start + get_or lengths i 0 ≤ length joined
   next-within = omega (arith, sum_more lengths i next, sum-within (i + 1) lengths)
@@ -53,7 +49,7 @@ module _ {at : ℕ} {joined lengths before now : List ℕ} {to start i : ℕ} (r
       omega (arith, length-texts-within joined (take i lengths) (omega (arith, sum-within i lengths)), length-take-le i lengths w.within)
 
   -- the turn that stores it
-  pub texts-written-more : {after : List ℕ} → after ≡ splice to (cut joined lengths start i) now → TextsWritten at joined lengths before after (to + (start + get_or lengths i 0 - start + 1)) (start + get_or lengths i 0) (i + 1)
+  pub texts-written-more : {after : List ℕ} → after ≡ splice to (cut joined lengths start i) now → TextsWritten at joined lengths before after (to + (get_or lengths i 0 + 1)) (start + get_or lengths i 0) (i + 1)
   texts-written-more {after} e =
       let n = get_or lengths i 0 in
       let first = text_bytes joined (take i lengths) in

@@ -2,13 +2,13 @@
 use mathlib.Core.Path.{◌≡◌, refl, sym, ap, ◌∙◌}
 use mathlib.Core.Bool.{false}
 use mathlib.Core.List.{List, [], ◌∷◌, ◌++◌, append_assoc, append-nil}
-use Prim.Native.Nat.{ℕ, zero, suc, ◌+◌, ◌≤◌, ◌<◌}
+use Prim.Native.Nat.{ℕ, ◌+◌, ◌≤◌, ◌<◌}
 use native.Mathlib.Numerals.{add-one}
 use native.Mathlib.Omega.{arith}
-use borrow.Author.Tests.{eq-eqb, ne_eqb, eqb-true, not-false}
+use borrow.Author.Tests.{ne_eqb, eqb-true, not-false}
 use lib.Dec.{eqb}
 use lib.ListN.{length, take, drop, get_or, length-append, length-drop, take-append-drop}
-use lib.Seq.{length-take-le, take_all, take-length, take-suc, drop-drop}
+use lib.Seq.{length-take-le, take-length, take-suc, drop-drop}
 use Rattle.fdt_strings.specs.Entries.{entry}
 use Rattle.fdt_strings.proofs.Entries.{length-entry}
 use Rattle.fdt_values.specs.Value.{texts, text_bytes, sum, misfit_value}
@@ -28,12 +28,6 @@ sum_more ns i h = rw (add-one i, take-suc ns i 0 h) (omega (arith, sum-append (t
 -- the first numbers are no more than all of them
 pub sum-within : (i : ℕ) (ns : List ℕ) → sum (take i ns) ≤ sum ns
 sum-within i ns = omega (arith, sum-append (take i ns) (drop i ns), ap sum (take-append-drop i ns))
-
--- what is left of a total after the first i numbers: it is 0 at the end exactly when the total is the sum
-pub none_left : (ns : List ℕ) (i left total : ℕ) → length ns ≤ i → left + sum (take i ns) ≡ total → eqb left 0 ≡ eqb (sum ns) total
-none_left ns i zero total h e = sym (eq-eqb (sum ns) total (omega (arith, ap sum (take_all i ns h))))
-none_left ns i (suc k) total h e =
-    ne_eqb (suc k) 0 (λ z. omega arith) ∙ sym (ne_eqb (sum ns) total (λ z. omega (arith, ap sum (take_all i ns h))))
 
 -- if it is less than the next number, the total is not the sum
 pub too_little : (ns : List ℕ) (i left total : ℕ) → i < length ns → left + sum (take i ns) ≡ total → left < get_or ns i 0 → false ≡ eqb (sum ns) total

@@ -10,14 +10,11 @@ pub fn sums_to(lengths: &[usize], total: usize) -> bool
     ensures { result ≡ eqb (sum lengths.now) total }
 {
     let mut left = total;
-    let mut i = 0;
-    while i < lengths.len() {
-        let n = lengths[i];
-        if left < n {
+    for n in lengths {
+        if left < *n {
             return false;
         }
-        left -= n;
-        i += 1;
+        left -= *n;
     }
     left == 0
 }
@@ -30,12 +27,10 @@ pub fn texts_at(blob: &mut [u8], at: usize, joined: &[u8], lengths: &[usize])
 {
     let mut to = at;
     let mut start = 0;
-    let mut i = 0;
-    while i < lengths.len() {
-        let end = start + lengths[i];
+    for n in lengths {
+        let end = start + *n;
         fdt_strings::store_string(blob, to, &joined[start..end]);
-        to += end - start + 1;
+        to += *n + 1;
         start = end;
-        i += 1;
     }
 }

@@ -4,20 +4,20 @@ use Rattle.fdt_values.proofs.Texts.{texts-written_none, texts-written-more, next
 use Rattle.fdt_values.proofs.texts_at.Goals as goal
 
 pub store_string-requires : goal.store_string-requires
-store_string-requires c = omega (arith, (next_fits (c.requires.lengths_sum, c.requires.room) c.loop-i.invariant c.loop-i-test.true), (length-next (c.requires.lengths_sum, c.requires.room) c.loop-i.invariant c.loop-i-test.true))
+store_string-requires c = omega (arith, (next_fits c.requires.lengths_sum c.requires.room c.loop-n.invariant c.loop-n-test.true), (length-next c.requires.lengths_sum c.requires.room c.loop-n.invariant c.loop-n-test.true))
 
-pub loop-i-init : goal.loop-i-init
-loop-i-init c = texts-written_none
+pub loop-n-init : goal.loop-n-init
+loop-n-init c = texts-written_none
 
 pub overflow_add-end : goal.overflow_add-end
-overflow_add-end c = omega (arith, next-within (c.requires.lengths_sum, c.requires.room) c.loop-i.invariant c.loop-i-test.true)
+overflow_add-end c = omega (arith, next-within c.requires.lengths_sum c.requires.room c.loop-n.invariant c.loop-n-test.true)
 
 pub slice_bounds-store_string-end : goal.slice_bounds-store_string-end
-slice_bounds-store_string-end c = next-within (c.requires.lengths_sum, c.requires.room) c.loop-i.invariant c.loop-i-test.true
+slice_bounds-store_string-end c = next-within c.requires.lengths_sum c.requires.room c.loop-n.invariant c.loop-n-test.true
 
-pub overflow_add-to-in-loop-i : goal.overflow_add-to-in-loop-i
-overflow_add-to-in-loop-i c = omega (arith, next_fits (c.requires.lengths_sum, c.requires.room) c.loop-i.invariant c.loop-i-test.true)
+pub overflow_add-to-in-loop-n : goal.overflow_add-to-in-loop-n
+overflow_add-to-in-loop-n c = omega (arith, next_fits c.requires.lengths_sum c.requires.room c.loop-n.invariant c.loop-n-test.true)
 
-pub loop-i-preserved : goal.loop-i-preserved
-loop-i-preserved c =
-    texts-written-more (c.requires.lengths_sum, c.requires.room) c.loop-i.invariant c.loop-i-test.true c.store_string.ensures
+pub loop-n-preserved : goal.loop-n-preserved
+loop-n-preserved c =
+    texts-written-more c.requires.lengths_sum c.requires.room c.loop-n.invariant c.loop-n-test.true c.store_string.ensures
