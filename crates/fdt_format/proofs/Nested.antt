@@ -7,8 +7,6 @@ use mathlib.Core.Logic.{◌↔◌}
 use mathlib.Core.Option.{Option, none, some, none-ne-some, some-injective}
 use Prim.Native.Nat.{ℕ, zero, suc, ◌<◌}
 use native.Mathlib.Omega.{arith}
-use Rattle.std.specs.declared.result.Result.{Result}
-use Rattle.std.specs.declared.result.Result.TheVariants.{Ok, Err}
 use Rattle.fdt_format.specs.declared.Areas.{Areas}
 use Rattle.fdt_format.specs.declared.Entry.{Entry}
 use Rattle.fdt_format.specs.declared.State.{State}
@@ -77,26 +75,26 @@ split t (good rest) ts q = record { rest = rest; is = refl; all = cc }
 module _ (b : List ℕ) where
   -- by the token at a state, if the walk after it has its events in order
   here : (a : Areas) (on : State → Walk) (s : State) → Open s → ((s' : State) → Open s' → (ts : List Entry) → on s' ≡ good ts → Ordered s' (map (event_at b) ts))
-      → (x : Result Step Unreadable) → Stepped b a s x → (ts : List Entry) → follow s x on ≡ good ts → Ordered s (map (event_at b) ts)
+      → (x : Step) → Stepped b a s x → (ts : List Entry) → follow s x on ≡ good ts → Ordered s (map (event_at b) ts)
   unfolding Stepped Open Ordered Accepted
-  here a on s o ih (Ok (step.Entry t s')) k ts q =
+  here a on s o ih (step.Entry t s') k ts q =
       let p : Split t (on s') ts = split t (on s') ts q in
       let h : Ordered s' (map (event_at b) p.rest) = ih s' (open_on k.1 o) p.rest p.is in
       subst (λ (l : List Entry). Ordered s (map (event_at b) l)) p.all (front (map (event_at b) p.rest) k.1 o h)
-  here a on s o ih (Ok step.Skip) k ts q = ih (past s) o ts q
-  here a on s o ih (Ok step.Final) k ts q = let n : [] ≡ ts = cc in rw (← n) k
-  here a on s o ih (Err r) k ts q = absurd (bad_not_good q)
+  here a on s o ih step.Skip k ts q = ih (past s) o ts q
+  here a on s o ih step.Final k ts q = let n : [] ≡ ts = cc in rw (← n) k
+  here a on s o ih (step.Bad r) k ts q = absurd (bad_not_good q)
 
   -- by the step at a state, if the entries after it have their tokens at their places
   tokens_here : (a : Areas) (on : State → Walk) (s : State) → ((s' : State) (ts : List Entry) → on s' ≡ good ts → TokensAt b ts)
-      → (x : Result Step Unreadable) → Stepped b a s x → (ts : List Entry) → follow s x on ≡ good ts → TokensAt b ts
+      → (x : Step) → Stepped b a s x → (ts : List Entry) → follow s x on ≡ good ts → TokensAt b ts
   unfolding Stepped TokensAt
-  tokens_here a on s ih (Ok (step.Entry t s')) k ts q =
+  tokens_here a on s ih (step.Entry t s') k ts q =
       let p : Split t (on s') ts = split t (on s') ts q in
       subst (TokensAt b) p.all (k.2, ih s' p.rest p.is)
-  tokens_here a on s ih (Ok step.Skip) k ts q = ih (past s) ts q
-  tokens_here a on s ih (Ok step.Final) k ts q = let n : [] ≡ ts = cc in rw (← n) tt
-  tokens_here a on s ih (Err r) k ts q = absurd (bad_not_good q)
+  tokens_here a on s ih step.Skip k ts q = ih (past s) ts q
+  tokens_here a on s ih step.Final k ts q = let n : [] ≡ ts = cc in rw (← n) tt
+  tokens_here a on s ih (step.Bad r) k ts q = absurd (bad_not_good q)
 
   module _ (a : Areas) where
     tokens_steps : (k : ℕ) (s : State) (ts : List Entry) → steps (step_at b a) k s ≡ good ts → TokensAt b ts

@@ -11,8 +11,6 @@ use lib.Dec.{eqb, leb, ltb}
 use lib.ListN.{get_or, take, drop}
 use Rattle.std.specs.declared.option.Option.{Option}
 use Rattle.std.specs.declared.option.Option.TheVariants.{None, Some}
-use Rattle.std.specs.declared.result.Result.{Result}
-use Rattle.std.specs.declared.result.Result.TheVariants.{Ok, Err}
 use Rattle.fdt_bytes.specs.BigEndian.{word_at}
 use Rattle.fdt_bytes.specs.Padding.{round_up}
 use Rattle.fdt_format.specs.declared.Areas.{Areas}
@@ -20,7 +18,6 @@ use Rattle.fdt_format.specs.declared.Entry.{Entry}
 use Rattle.fdt_format.specs.declared.State.{State}
 use Rattle.fdt_format.specs.declared.Step.{Step}
 use Rattle.fdt_format.specs.declared.Step.TheVariants as step
-use Rattle.fdt_format.specs.declared.Unreadable.{Unreadable}
 use Rattle.fdt_format.specs.declared.Unreadable.TheVariants.{Structure, NameOffset}
 use Rattle.fdt_format.specs.Description.{◌≔◌}
 use Rattle.fdt_format.specs.Events.{begins, has, ends}
@@ -118,11 +115,11 @@ module _ (b : List ℕ) (t : Entry) where
 -- ---- how a token moves the state
 
 -- an entry moves the place on, begins a node, is a property or ends a node, and has its token at its place; a word 4 is whole; the final word comes where no node is open; a token is refused only for its structure or its name offset
-unfoldable pub Stepped : List ℕ → Areas → State → Result Step Unreadable → Type 0
-Stepped b a s (Ok (step.Entry t s')) = Moved a s s' × Kind b s t s' × (word_at b t.place ≡ t.token)
-Stepped b a s (Ok step.Skip) = s.at + 4 ≤ a.structure_end
-Stepped b a s (Ok step.Final) = s.depth ≡ 0
-Stepped b a s (Err r) = (r ≡ Structure) ⊎ (r ≡ NameOffset)
+unfoldable pub Stepped : List ℕ → Areas → State → Step → Type 0
+Stepped b a s (step.Entry t s') = Moved a s s' × Kind b s t s' × (word_at b t.place ≡ t.token)
+Stepped b a s step.Skip = s.at + 4 ≤ a.structure_end
+Stepped b a s step.Final = s.depth ≡ 0
+Stepped b a s (step.Bad r) = (r ≡ Structure) ⊎ (r ≡ NameOffset)
 
 round_up_ge : (m n : ℕ) → n ≤ round_up m n
 unfolding round_up
@@ -183,7 +180,7 @@ module _ (b : List ℕ) (a : Areas) (s : State) where
       λ _. by_test (Stepped b a s) (eqb word final_token) _ _ (λ _. final_stepped) (λ _. inl refl)
 
   -- a whole word 4 inside the structure is skipped
-  pub step_skip : s.at + 4 ≤ a.structure_end → word_at b s.at ≡ skip_token → step_at b a s ≡ Ok step.Skip
+  pub step_skip : s.at + 4 ≤ a.structure_end → word_at b s.at ≡ skip_token → step_at b a s ≡ step.Skip
   unfolding step_at
   step_skip h w = let whole : 4 ≤ a.structure_end - s.at = omega arith in rw (le-ltb _ _ whole, w)
 
@@ -191,6 +188,6 @@ module _ (b : List ℕ) (a : Areas) (s : State) where
   pub skip_moved : s.at + 4 ≤ a.structure_end → Moved a s (past s)
   skip_moved h = record { on = omega arith; within = h }
 
-  pub moved : {t : Entry} {s' : State} → step_at b a s ≡ Ok (step.Entry t s') → Moved a s s'
+  pub moved : {t : Entry} {s' : State} → step_at b a s ≡ step.Entry t s' → Moved a s s'
   unfolding Stepped
   moved q = (subst (Stepped b a s) q step_stepped).0

@@ -6,8 +6,6 @@ use Prim.Native.Nat.{ℕ, ◌+◌, ◌-◌, ◌%◌, ◌≤◌, ◌<◌, ◌^◌
 use native.Mathlib.Omega.{arith}
 use borrow.Author.Tests.{lt-leb, le-ltb, eq-eqb, ne_eqb}
 use lib.ListN.{length}
-use Rattle.std.specs.declared.result.Result.{Result}
-use Rattle.std.specs.declared.result.Result.TheVariants.{Ok}
 use Rattle.fdt_bytes.specs.BigEndian.{big_endian, word_at, cell_bytes}
 use Rattle.fdt_bytes.specs.Padding.{padding, round_up, zeros, padded}
 use Rattle.fdt_bytes.proofs.BigEndian.{length-big_endian, length-cells}
@@ -15,9 +13,7 @@ use Rattle.fdt_strings.specs.Entries.{entry, NoZero}
 use Rattle.fdt_format.specs.declared.Areas.{Areas}
 use Rattle.fdt_format.specs.declared.Entry.{Entry}
 use Rattle.fdt_format.specs.declared.State.{State}
-use Rattle.fdt_format.specs.declared.Step.{Step}
 use Rattle.fdt_format.specs.declared.Step.TheVariants as step
-use Rattle.fdt_format.specs.declared.Unreadable.{Unreadable}
 use Rattle.fdt_format.specs.Description.{◌≔◌}
 use Rattle.fdt_format.specs.Events.{Event, begins, has, ends}
 use Rattle.fdt_format.specs.Tokens.{begin_token, end_token, property_token, skip_token, final_token, begin_bytes, property_bytes, end_bytes, final_bytes}
@@ -82,11 +78,11 @@ module _ (a : Areas) (names : List (List ℕ)) where
 
 -- an event is read at a state: the step is its entry, and the entry means the event
 pub record Read (b : List ℕ) (a : Areas) (names : List (List ℕ)) (s : State) (e : Event) : Type 0 where
-  pub step : step_at b a s ≡ Ok (step.Entry (entry_of a names s e) (state_after s e))
+  pub step : step_at b a s ≡ step.Entry (entry_of a names s e) (state_after s e)
   pub event_is : event_at b (entry_of a names s e) ≡ e
 
 -- states at the same place
-same_place : {t : Entry} {depth : ℕ} {room : Bool} {i j : ℕ} → i ≡ j → ◌≡◌ {A = Result Step Unreadable} (Ok (step.Entry t (record { at = i; depth = depth; takes_property = room }))) (Ok (step.Entry t (record { at = j; depth = depth; takes_property = room })))
+same_place : {t : Entry} {depth : ℕ} {room : Bool} {i j : ℕ} → i ≡ j → step.Entry t (record { at = i; depth = depth; takes_property = room }) ≡ step.Entry t (record { at = j; depth = depth; takes_property = room })
 same_place e = rw e
 
 -- a name is in the strings of a blob
@@ -149,10 +145,10 @@ module _ (b : List ℕ) (a : Areas) (names : List (List ℕ)) (s : State) where
         event_is = event_has b (entry_of a names s (has (name ≔ value))) refl ∙ rw (name_read n.plain n.held, bytes_take v (length value) refl);
       }
 
-  pub skip_read : BytesAt b s.at (big_endian 4 skip_token) → s.at + 4 ≤ a.structure_end → step_at b a s ≡ Ok step.Skip
+  pub skip_read : BytesAt b s.at (big_endian 4 skip_token) → s.at + 4 ≤ a.structure_end → step_at b a s ≡ step.Skip
   skip_read h le = step_skip b a s le (word_at_lem skip_token h (omega arith))
 
-  pub final_read : (strings : List ℕ) → BytesAt b s.at (final_bytes strings) → s.at + 4 ≡ a.structure_end → s.depth ≡ 0 → step_at b a s ≡ Ok step.Final
+  pub final_read : (strings : List ℕ) → BytesAt b s.at (final_bytes strings) → s.at + 4 ≡ a.structure_end → s.depth ≡ 0 → step_at b a s ≡ step.Final
   unfolding final_bytes step_at final_at
   final_read strings h le d =
       let w : word_at b s.at ≡ final_token = word_at_lem 9 (bytes_left (big_endian 4 9) strings h) (omega arith) in

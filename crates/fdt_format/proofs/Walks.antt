@@ -3,13 +3,10 @@ use mathlib.Core.Path.{◌≡◌, refl, sym, ap, ◌∙◌}
 use mathlib.Core.List.{List}
 use Prim.Native.Nat.{ℕ, zero, suc, ◌+◌, ◌-◌, ◌≤◌, ◌<◌}
 use native.Mathlib.Omega.{arith}
-use Rattle.std.specs.declared.result.Result.{Result}
-use Rattle.std.specs.declared.result.Result.TheVariants.{Ok, Err}
 use Rattle.fdt_format.specs.declared.Areas.{Areas}
 use Rattle.fdt_format.specs.declared.State.{State}
 use Rattle.fdt_format.specs.declared.Step.{Step}
 use Rattle.fdt_format.specs.declared.Step.TheVariants as step
-use Rattle.fdt_format.specs.declared.Unreadable.{Unreadable}
 use Rattle.fdt_format.specs.Moves.{Moved}
 use Rattle.fdt_bytes.specs.BigEndian.{word_at}
 use Rattle.fdt_format.specs.Step.{past, step_at}
@@ -44,12 +41,12 @@ module _
 -- ---- the reading's walk
 
 -- what follows a token is the same for two walks that agree after it
-follow-same : (b : List ℕ) (a : Areas) (s : State) (x : Result Step Unreadable) → Stepped b a s x → (g h : State → Walk) → ((s' : State) → Moved a s s' → g s' ≡ h s') → follow s x g ≡ follow s x h
+follow-same : (b : List ℕ) (a : Areas) (s : State) (x : Step) → Stepped b a s x → (g h : State → Walk) → ((s' : State) → Moved a s s' → g s' ≡ h s') → follow s x g ≡ follow s x h
 unfolding Stepped
-follow-same b a s (Ok (step.Entry t s')) m g h same = ap (more t) (same s' m.0)
-follow-same b a s (Ok step.Skip) m g h same = ap (λ (w : Walk). follow s (Ok step.Skip) (λ _. w)) (same (past s) (skip_moved b a s m))
-follow-same b a s (Ok step.Final) m g h same = refl
-follow-same b a s (Err r) m g h same = refl
+follow-same b a s (step.Entry t s') m g h same = ap (more t) (same s' m.0)
+follow-same b a s step.Skip m g h same = ap (λ (w : Walk). follow s step.Skip (λ _. w)) (same (past s) (skip_moved b a s m))
+follow-same b a s step.Final m g h same = refl
+follow-same b a s (step.Bad r) m g h same = refl
 
 -- a walk is its first token and the walk after it
 pub walk_step : (b : List ℕ) (a : Areas) (s : State) → walk b a s ≡ follow s (step_at b a s) (walk b a)

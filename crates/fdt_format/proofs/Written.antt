@@ -5,7 +5,6 @@ use mathlib.Core.List.{List, [], ◌∷◌, ◌++◌, append_assoc, map}
 use Prim.Native.Nat.{ℕ, zero, suc, ◌+◌, ◌%◌, ◌≤◌, ◌<◌, ◌^◌}
 use native.Mathlib.Omega.{arith}
 use lib.ListN.{length, length-append}
-use Rattle.std.specs.declared.result.Result.TheVariants.{Ok}
 use Rattle.fdt_bytes.specs.BigEndian.{big_endian}
 use Rattle.fdt_bytes.proofs.BigEndian.{length-big_endian}
 use Rattle.fdt_strings.specs.Entries.{entry, joined}
@@ -75,15 +74,15 @@ module _ {b : List ℕ} {a : Areas} {names : List (List ℕ)} {strings : List �
 
 -- the walk from a state on skips no word: entry follows entry, up to the final word
 pub data SkipsNone (b : List ℕ) (a : Areas) : State → Type 0 where
-  at_final : {s : State} → step_at b a s ≡ Ok step.Final → SkipsNone b a s
-  at_entry : {s : State} {t : Entry} {s' : State} → step_at b a s ≡ Ok (step.Entry t s') → SkipsNone b a s' → SkipsNone b a s
+  at_final : {s : State} → step_at b a s ≡ step.Final → SkipsNone b a s
+  at_entry : {s : State} {t : Entry} {s' : State} → step_at b a s ≡ step.Entry t s' → SkipsNone b a s' → SkipsNone b a s
 
 -- the steps from a state on, piece by piece
 module _ (b : List ℕ) (a : Areas) (names : List (List ℕ)) where
   unfoldable pub Chain : State → List Piece → Type 0
-  Chain s [] = step_at b a s ≡ Ok step.Final
+  Chain s [] = step_at b a s ≡ step.Final
   Chain s (token e ∷ ps) = Read b a names s e × Chain (state_after s e) ps
-  Chain s (blank ∷ ps) = (step_at b a s ≡ Ok step.Skip) × Chain (past s) ps
+  Chain s (blank ∷ ps) = (step_at b a s ≡ step.Skip) × Chain (past s) ps
 
   -- the walk finds the entries of the pieces
   pub chain_walked : (ps : List Piece) (s : State) → Chain s ps → walk b a s ≡ good (entries_of a names s ps)

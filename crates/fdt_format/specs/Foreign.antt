@@ -1,7 +1,7 @@
 -- Blobs that our writer does not make, and what the reading says of each: made by hand from document 01, "How a blob is read", and
 -- document 02, request 3/14.
 -- A blob that is refused breaks one rule. Without that rule it would be read, or at least its walk would not stop.
-use Rattle.std.specs.Prelude.{◌≡◌, Bool, true, false, List, [], ◌∷◌, ◌++◌, ℕ, zero, suc, ◌+◌, ◌*◌, length, set, Result, Ok, Err}
+use Rattle.std.specs.Prelude.{◌≡◌, Bool, true, false, List, [], ◌∷◌, ◌++◌, ℕ, zero, suc, ◌+◌, ◌*◌, length, set}
 use Rattle.std.proofs.Math.Option.{Option, none, some}
 use Rattle.fdt_bytes.specs.BigEndian.{cell_bytes}
 use Rattle.fdt_format.specs.declared.Step.{Step}
@@ -22,10 +22,10 @@ pub data ForeignCase : Type 0 where
   -- a blob, and whether its length, magic, total size and versions are right
   ◌good-words◌ : List ℕ → Bool → ForeignCase
   -- the words of a structure, the place where it ends, and its first token
-  token : List ℕ → ℕ → Result Step Unreadable → ForeignCase
+  token : List ℕ → ℕ → Step → ForeignCase
 
 -- the first token of a structure that ends at a place; one node is open, and the strings are the same words
-unfoldable pub first_token : List ℕ → ℕ → Result Step Unreadable
+unfoldable pub first_token : List ℕ → ℕ → Step
 first_token words end =
     step_at (cell_bytes 4 words)
     (record { reservations = 0; structure = 0; structure_end = end; strings = 0; strings_end = 4 * length words; boot = 0 })
@@ -163,14 +163,14 @@ foreign =
     ∷ (only (1 ∷ 0 ∷ 3 ∷ 0 ∷ 4 ∷ 2 ∷ 9 ∷ []) string_a stops NameOffset)
     ∷ (only (1 ∷ 0 ∷ 3 ∷ 0 ∷ 0 ∷ 2 ∷ 9 ∷ []) (0x61616161 ∷ []) stops NameOffset)
     -- a token ends inside the structure, with its name or value and the padding (in a whole blob, the next token would be refused too)
-    ∷ token (2 ∷ []) 4 (Ok (step.Entry (record { token = 2; place = 0; name = 0; size = 0 }) (record { at = 4; depth = 0; takes_property = false })))
-    ∷ token (2 ∷ []) 3 (Err Structure)
-    ∷ token (4 ∷ []) 4 (Ok step.Skip)
-    ∷ token (4 ∷ []) 3 (Err Structure)
-    ∷ token (1 ∷ 0x61000000 ∷ []) 8 (Ok (step.Entry (record { token = 1; place = 0; name = 4; size = 0 }) (record { at = 8; depth = 2; takes_property = true })))
-    ∷ token (1 ∷ 0x61000000 ∷ []) 7 (Err Structure)
-    ∷ token (1 ∷ 0x61000000 ∷ []) 5 (Err Structure)
-    ∷ token (3 ∷ 1 ∷ 0 ∷ 0x07000000 ∷ []) 16 (Ok (step.Entry (record { token = 3; place = 0; name = 0; size = 1 }) (record { at = 16; depth = 1; takes_property = true })))
-    ∷ token (3 ∷ 1 ∷ 0 ∷ 0x07000000 ∷ []) 15 (Err Structure)
-    ∷ token (3 ∷ 1 ∷ 0 ∷ 0x07000000 ∷ []) 12 (Err Structure)
+    ∷ token (2 ∷ []) 4 (step.Entry (record { token = 2; place = 0; name = 0; size = 0 }) (record { at = 4; depth = 0; takes_property = false }))
+    ∷ token (2 ∷ []) 3 (step.Bad Structure)
+    ∷ token (4 ∷ []) 4 step.Skip
+    ∷ token (4 ∷ []) 3 (step.Bad Structure)
+    ∷ token (1 ∷ 0x61000000 ∷ []) 8 (step.Entry (record { token = 1; place = 0; name = 4; size = 0 }) (record { at = 8; depth = 2; takes_property = true }))
+    ∷ token (1 ∷ 0x61000000 ∷ []) 7 (step.Bad Structure)
+    ∷ token (1 ∷ 0x61000000 ∷ []) 5 (step.Bad Structure)
+    ∷ token (3 ∷ 1 ∷ 0 ∷ 0x07000000 ∷ []) 16 (step.Entry (record { token = 3; place = 0; name = 0; size = 1 }) (record { at = 16; depth = 1; takes_property = true }))
+    ∷ token (3 ∷ 1 ∷ 0 ∷ 0x07000000 ∷ []) 15 (step.Bad Structure)
+    ∷ token (3 ∷ 1 ∷ 0 ∷ 0x07000000 ∷ []) 12 (step.Bad Structure)
     ∷ []

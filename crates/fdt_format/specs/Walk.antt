@@ -1,5 +1,5 @@
 -- Reading the structure token by token, to the final word or the first that is refused.
-use Rattle.std.specs.Prelude.{◌≡◌, false, List, [], ◌∷◌, ℕ, zero, suc, ◌-◌, Result, Ok, Err}
+use Rattle.std.specs.Prelude.{◌≡◌, false, List, [], ◌∷◌, ℕ, zero, suc, ◌-◌}
 use Rattle.fdt_bytes.specs.BigEndian.{word_at}
 use Rattle.fdt_format.specs.declared.Areas.{Areas}
 use Rattle.fdt_format.specs.declared.Entry.{Entry}
@@ -21,14 +21,14 @@ more t (bad r) = bad r
 more t (good ts) = good (t ∷ ts)
 
 -- the token at a state, and the walk after it; a word 4 is skipped
-abbrev pub follow : State → Result Step Unreadable → (State → Walk) → Walk
-follow s (Ok (step.Entry t s')) on = more t (on s')
-follow s (Ok step.Skip) on = on (past s)
-follow s (Ok step.Final) on = good []
-follow s (Err r) on = bad r
+abbrev pub follow : State → Step → (State → Walk) → Walk
+follow s (step.Entry t s') on = more t (on s')
+follow s step.Skip on = on (past s)
+follow s step.Final on = good []
+follow s (step.Bad r) on = bad r
 
 -- at most k tokens; `token` reads the one at a state
-unfoldable pub steps : (State → Result Step Unreadable) → ℕ → State → Walk
+unfoldable pub steps : (State → Step) → ℕ → State → Walk
 steps token zero s = bad Structure
 steps token (suc k) s = follow s (token s) (steps token k)
 

@@ -27,11 +27,10 @@ use Rattle.fdt_read_token.specs.Trimmed.{trimmed, Trimmed}
 use Rattle.fdt_read_token.proofs.Trimmed.{trimmed_is}
 use Rattle.fdt_walk.specs.declared.Fault.{Fault}
 use Rattle.fdt_walk.specs.declared.Refusal.TheVariants.{Header, Unreadable}
-use Rattle.fdt_walk.specs.Token.{placed}
 use Rattle.fdt_walk.specs.ReaderWalk.{ReaderWalk, stops, reads, reader_walk}
 use Rattle.fdt_walk.proofs.Walked.{walk-trimmed}
 use Rattle.fdt_reader.specs.Pass.{counted_walk}
-use Rattle.fdt_reader.specs.Reader.{SurveyAnswer, refused_at, from_walk, from_reservations, outcome, surveyed_as, survey_of}
+use Rattle.fdt_reader.specs.Reader.{SurveyAnswer, placed, refused_at, from_walk, from_reservations, outcome, surveyed_as, survey_of}
 
 -- ---- a good header
 

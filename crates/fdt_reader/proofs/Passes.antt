@@ -3,9 +3,6 @@ use mathlib.Core.Path.{◌≡◌, refl, ap, subst, ◌∙◌}
 use mathlib.Core.List.{List}
 use Prim.Native.Nat.{ℕ, suc, ◌+◌, ◌-◌, ◌*◌, ◌≤◌, ◌<◌, ◌^◌}
 use native.Mathlib.Omega.{arith}
-use Rattle.std.specs.declared.option.Option.{Option}
-use Rattle.std.specs.declared.option.Option.TheVariants.{None, Some}
-use Rattle.std.specs.declared.result.Result.TheVariants.{Ok, Err}
 use Rattle.fdt_format.specs.declared.Areas.{Areas}
 use Rattle.fdt_format.specs.declared.Entry.{Entry}
 use Rattle.fdt_format.specs.declared.State.{State}
@@ -13,9 +10,11 @@ use Rattle.fdt_format.specs.Tokens.{begin_token, end_token}
 use Rattle.fdt_format.specs.Walk.{walk_start}
 use Rattle.fdt_read_token.specs.Trimmed.{Trimmed}
 use Rattle.fdt_walk.specs.declared.Fault.{Fault}
+use Rattle.fdt_walk.specs.declared.Token.{Token}
+use Rattle.fdt_walk.specs.declared.Token.TheVariants as token
 use Rattle.fdt_walk.specs.Depth.{most_open}
 use Rattle.fdt_walk.specs.ReaderWalk.{ReaderWalk, stops, reads, more, reader_walk}
-use Rattle.fdt_walk.specs.Token.{Stands, Token, follow, Next, Goes, Takes}
+use Rattle.fdt_walk.specs.Token.{Stands, follow, Next, Goes, Takes}
 use Rattle.fdt_walk.proofs.Walked.{begin-opens, end-closes, property_stays}
 use Rattle.fdt_reader.specs.declared.Cursor.{Cursor}
 use Rattle.fdt_reader.specs.declared.Progress.{Progress}
@@ -68,12 +67,16 @@ module _ (b : List ℕ) (a : Areas) where
     told : {y : Token} → x ≡ y → result_from b a list₀ c₀ ≡ result list c.count (follow y (reader_walk b a))
     told q = o.same ∙ ap (result list c.count) (k.tells ∙ ap (λ (r : Token). follow r (reader_walk b a)) q)
 
-    pub at_fault : {fault : Fault} → x ≡ Err fault → Continues b a list₀ c₀ list (Err fault)
+    pub at_fault : {fault : Fault} → x ≡ token.Refused fault → Continues b a list₀ c₀ list (progress.Refused fault)
     unfolding result_at Stops result
     at_fault q = record { same = told q; stops = tt }
 
+    pub at_final : x ≡ token.Final → Continues b a list₀ c₀ list (progress.Complete c.count)
+    unfolding result_at Stops result put_all
+    at_final q = record { same = told q; stops = tt }
+
     -- it is an entry
-    pub entered : {t : Entry} {s : State} → x ≡ Ok (Some (t, s)) → Entered b a list₀ c₀ list c t s
+    pub entered : {t : Entry} {s : State} → x ≡ token.Entry t s → Entered b a list₀ c₀ list c t s
     unfolding Goes
     entered {t} {s} q =
         let n : Next b a c.state t s = subst (Goes b a c.state) q k.goes in
@@ -83,13 +86,6 @@ module _ (b : List ℕ) (a : Areas) where
           same = told q ∙ result-more list c.count t (reader_walk b a s);
           placed = record { stands = record { within = n.moved.within; shallow = n.shallow }; few = omega (arith, o.placed.few, n.moved.on) };
         }
-
-  -- it is the final word: no entry is taken
-  pub at_final : {c₀ c : Cursor} {list₀ list : List ℕ} (o : Onward b a list₀ c₀ list c) {x : Option (Entry × State)} → Takes b a c.state (Ok x) → ((e : Entry × State) → x ≡ Some e → ⊥)
-      → Continues b a list₀ c₀ list (Ok (progress.Complete c.count))
-  unfolding result_at Stops result put_all
-  at_final o {x = Some e} k n = absurd (n e refl)
-  at_final o {x = None} k n = record { same = told o k refl; stops = tt }
 
   -- an entry was taken at the cursor
   module _ {c₀ c : Cursor} {list₀ list : List ℕ} {t : Entry} {s : State} (e : Entered b a list₀ c₀ list c t s) where
@@ -105,7 +101,7 @@ module _ (b : List ℕ) (a : Areas) where
         record { same = e.same; on = omega (arith, e.turn.on, e.next.moved.on); placed = e.placed; depth = property_stays e.next.kind m n ∙ e.turn.depth }
 
     -- it is the end of the node
-    pub at_end : (list' : List ℕ) → list' ≡ put list c.count t → t.token ≡ end_token → Continues b a list₀ c₀ list' (Ok (progress.Ended (after s c.count)))
+    pub at_end : (list' : List ℕ) → list' ≡ put list c.count t → t.token ≡ end_token → Continues b a list₀ c₀ list' (progress.Ended (after s c.count))
     unfolding result_at Stops
     at_end list' w n =
         rw w
@@ -119,7 +115,7 @@ module _ (b : List ℕ) (a : Areas) where
     fewer_calls m = omega (arith, begin-opens e.next.kind m, e.turn.depth, e.next.shallow)
 
     -- and the child was read
-    module _ (list' : List ℕ) (d : Cursor) (h : Continues b a (put list c.count t) (after s c.count) list' (Ok (progress.Ended d))) where
+    module _ (list' : List ℕ) (d : Cursor) (h : Continues b a (put list c.count t) (after s c.count) list' (progress.Ended d)) where
       pub child_ended : t.token ≡ begin_token → Onward b a list₀ c₀ list' d
       unfolding result_at Stops
       child_ended m =
@@ -135,13 +131,9 @@ module _ (b : List ℕ) (a : Areas) where
       child_less = omega (arith, e.next.moved.on, h.stops.on, h.stops.placed.stands.within)
 
     -- or the pass stopped in the child
-    pub child_stopped : (list' : List ℕ) (r : Progress) → ((d : Cursor) → r ≡ progress.Ended d → ⊥) → Continues b a (put list c.count t) (after s c.count) list' (Ok r)
-        → Continues b a list₀ c₀ list' (Ok r)
+    pub child_stopped : (list' : List ℕ) (r : Progress) → ((d : Cursor) → r ≡ progress.Ended d → ⊥) → Continues b a (put list c.count t) (after s c.count) list' r
+        → Continues b a list₀ c₀ list' r
     unfolding result_at Stops
     child_stopped list' (progress.Ended d) n h = absurd (n d refl)
     child_stopped list' (progress.Complete m) n h = record { same = e.same ∙ h.same; stops = tt }
-
-    -- or at a fault in the child
-    pub child_faulty : (list' : List ℕ) {fault : Fault} → Continues b a (put list c.count t) (after s c.count) list' (Err fault) → Continues b a list₀ c₀ list' (Err fault)
-    unfolding result_at Stops
-    child_faulty list' h = record { same = e.same ∙ h.same; stops = tt }
+    child_stopped list' (progress.Refused fault) n h = record { same = e.same ∙ h.same; stops = tt }

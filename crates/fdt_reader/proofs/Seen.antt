@@ -6,7 +6,6 @@ use native.Mathlib.Omega.{arith}
 use mir.Syntax.{w8}
 use mir.Val.{Fits}
 use lib.ListN.{length, get_or}
-use Rattle.std.specs.declared.result.Result.{Result}
 use Rattle.std.specs.declared.result.Result.TheVariants.{Ok, Err}
 use Rattle.fdt_format.specs.declared.Entry.{Entry}
 use Rattle.fdt_format.specs.Reading.{areas_of}
@@ -74,7 +73,7 @@ module _ (b : List ℕ) where
       reads_short h = accepted-short b list seen.outcome_is (omega (arith, entries_are seen))
 
       -- the list has room, and a pass filled it
-      pub reads-done : {list' : List ℕ} (r : Result Progress Fault) → s.entries ≤ length list / 4 → Continues b s.areas list (first s.areas) list' r
+      pub reads-done : {list' : List ℕ} (r : Progress) → s.entries ≤ length list / 4 → Continues b s.areas list (first s.areas) list' r
           → Read b list list' (Ok (record { boot = s.areas.boot; reservations = s.reservations; entries = s.entries }))
       unfolding trimmed
       reads-done r h pass =

@@ -24,7 +24,7 @@ unfolding walk_start
 first-placed h = record { stands = record { within = h; shallow = omega arith }; few = omega arith }
 
 -- no node is open there, so none ends
-pub never_ended : {b : List ℕ} {a : Areas} {list list' : List ℕ} {d : Cursor} {A : Type 0} → Continues b a list (first a) list' (Ok (progress.Ended d)) → A
+pub never_ended : {b : List ℕ} {a : Areas} {list list' : List ℕ} {d : Cursor} {A : Type 0} → Continues b a list (first a) list' (progress.Ended d) → A
 unfolding Stops walk_start
 never_ended h = absurd (omega (arith, h.stops.depth))
 
@@ -52,11 +52,11 @@ walk_faulty fault (reads ts) q = absurd (let z : ◌≡◌ {A = ℕ} 0 1 = cc (c
 
 -- what a pass without room comes to is the count of the walk
 module _ {a : Areas} {b : List ℕ} {list' : List ℕ} where
-  pub count_complete : {n : ℕ} → Continues b a [] (first a) list' (Ok (progress.Complete n)) → Ok n ≡ counted_walk (reader_walk b a (walk_start a))
+  pub count_complete : {n : ℕ} → Continues b a [] (first a) list' (progress.Complete n) → Ok n ≡ counted_walk (reader_walk b a (walk_start a))
   unfolding result_at
   count_complete h = walk-counted _ list' (reader_walk b a (walk_start a)) h.same
 
-  pub count_faulty : {fault : Fault} → Continues b a [] (first a) list' (Err fault) → Err fault ≡ counted_walk (reader_walk b a (walk_start a))
+  pub count_faulty : {fault : Fault} → Continues b a [] (first a) list' (progress.Refused fault) → Err fault ≡ counted_walk (reader_walk b a (walk_start a))
   unfolding result_at
   count_faulty h = walk_faulty _ (reader_walk b a (walk_start a)) h.same
 
@@ -103,11 +103,11 @@ unfolding result
 walk-filled list list' ts w n e room q = let f : put_all list 0 ts ≡ complete (0 + length ts) (filled list ts) = fills ts [] list 0 refl (omega arith) in cc
 
 -- a pass over a good structure fills a list that has room
-pub fills_list : {b : List ℕ} {a : Areas} (list : List ℕ) {list' : List ℕ} (r : Result Progress Fault) (ts : List Entry) → reader_walk b a (walk_start a) ≡ reads ts → length ts ≤ length list / 4
+pub fills_list : {b : List ℕ} {a : Areas} (list : List ℕ) {list' : List ℕ} (r : Progress) (ts : List Entry) → reader_walk b a (walk_start a) ≡ reads ts → length ts ≤ length list / 4
     → Continues b a list (first a) list' r → list' ≡ filled list ts
 unfolding result_at result
-fills_list list (Ok (progress.Ended d)) ts e room h = never_ended h
-fills_list {b} {a} list {list'} (Ok (progress.Complete n)) ts e room h = walk-filled list list' ts (reader_walk b a (walk_start a)) n e room h.same
-fills_list {b} {a} list (Err fault) ts e room h =
+fills_list list (progress.Ended d) ts e room h = never_ended h
+fills_list {b} {a} list {list'} (progress.Complete n) ts e room h = walk-filled list list' ts (reader_walk b a (walk_start a)) n e room h.same
+fills_list {b} {a} list (progress.Refused fault) ts e room h =
     let f : put_all list 0 ts ≡ complete (0 + length ts) (filled list ts) = fills ts [] list 0 refl (omega arith) in
     absurd (let z : ◌≡◌ {A = ℕ} 0 1 = cc (rw e at h.same) in omega arith)

@@ -39,10 +39,10 @@ abbrev pub result_from : List ℕ → Areas → List ℕ → Cursor → Passed
 result_from b a list c = result list c.count (reader_walk b a c.state)
 
 -- what a pass comes to, by where it stopped
-unfoldable pub result_at : List ℕ → Areas → List ℕ → Result Progress Fault → Passed
-result_at b a list (Ok (progress.Ended c)) = result_from b a list c
-result_at b a list (Ok (progress.Complete n)) = complete n list
-result_at b a list (Err fault) = faulty fault
+unfoldable pub result_at : List ℕ → Areas → List ℕ → Progress → Passed
+result_at b a list (progress.Ended c) = result_from b a list c
+result_at b a list (progress.Complete n) = complete n list
+result_at b a list (progress.Refused fault) = faulty fault
 
 -- a cursor inside the structure, with no more entries than bytes before it
 pub record Placed (a : Areas) (c : Cursor) : Type 0 where
@@ -60,13 +60,13 @@ pub record Leaves (a : Areas) (c c' : Cursor) : Type 0 where
   pub depth : suc c'.state.depth ≡ c.state.depth
 
 -- where a pass from a cursor may stop
-unfoldable pub Stops : Areas → Cursor → Result Progress Fault → Type 0
-Stops a c (Ok (progress.Ended c')) = Leaves a c c'
-Stops a c (Ok (progress.Complete n)) = Unit {0}
-Stops a c (Err fault) = Unit {0}
+unfoldable pub Stops : Areas → Cursor → Progress → Type 0
+Stops a c (progress.Ended c') = Leaves a c c'
+Stops a c (progress.Complete n) = Unit {0}
+Stops a c (progress.Refused fault) = Unit {0}
 
 -- what a part of a pass promises: what the whole comes to is the same, before it and by where it stopped
-pub record Continues (b : List ℕ) (a : Areas) (list : List ℕ) (c : Cursor) (list' : List ℕ) (r : Result Progress Fault) : Type 0 where
+pub record Continues (b : List ℕ) (a : Areas) (list : List ℕ) (c : Cursor) (list' : List ℕ) (r : Progress) : Type 0 where
   pub same : result_from b a list c ≡ result_at b a list' r
   pub stops : Stops a c r
 

@@ -3,6 +3,7 @@ use Rattle.std.specs.Prelude.{◌≡◌, cond, List, [], ◌∷◌, ◌++◌, �
 use Rattle.std.proofs.Math.Option.{Option, none, some}
 use Rattle.fdt_format.specs.declared.Areas.{Areas}
 use Rattle.fdt_format.specs.declared.Entry.{Entry}
+use Rattle.fdt_format.specs.declared.Unreadable.{Unreadable as Reason}
 use Rattle.fdt_format.specs.declared.Unreadable.TheVariants.{Reservations}
 use Rattle.fdt_format.specs.Description.{Reservation}
 use Rattle.fdt_format.specs.Reading.{areas_of, good_header, read_reservations}
@@ -55,6 +56,11 @@ values_of (Err (error.Refused refusal)) = no_values
 values_of (Err error.ShortList) = no_values
 
 -- ---- what is found in a blob
+
+-- a count that was read at a place: a refusal is a fault there
+abbrev pub placed : ℕ → Result ℕ Reason → Result ℕ Fault
+placed place (Ok n) = Ok n
+placed place (Err reason) = Err (record { refusal = Unreadable reason; place = place })
 
 -- the first fault; or the reservations and the entries
 pub data Outcome : Type 0 where

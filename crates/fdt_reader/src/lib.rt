@@ -7,13 +7,13 @@ ghost use Rattle.fdt_format.specs.Walk.{walk_start};
 ghost use Rattle.fdt_read_header.specs.Counted.{counted};
 ghost use Rattle.fdt_read_token.specs.Trimmed.{Trimmed};
 ghost use Rattle.fdt_walk.specs.ReaderWalk.{reader_walk};
-ghost use Rattle.fdt_walk.specs.Token.{Stands, placed};
+ghost use Rattle.fdt_walk.specs.Token.{Stands};
 ghost use Rattle.fdt_reader.specs.declared.ReadError.TheVariants.{Refused};
 ghost use Rattle.fdt_reader.specs.Pass.{put, after, Placed, Continues, first, counted_walk};
-ghost use Rattle.fdt_reader.specs.Reader.{number_of, values_of, fault_place, survey_of, Read};
+ghost use Rattle.fdt_reader.specs.Reader.{placed, number_of, values_of, fault_place, survey_of, Read};
 
 use fdt_format::{Areas, Entry, FDT_BEGIN_NODE, FDT_END_NODE, State};
-use fdt_walk::{Fault, Refusal, token_at};
+use fdt_walk::{Fault, Refusal, Token, token_at};
 
 // How far a pass has come: a state of the walk, and how many entries came before it.
 #[derive(Clone, Copy)]
@@ -22,11 +22,13 @@ struct Cursor {
     count: usize,
 }
 
-// Where a pass stopped without a fault: after the end of the open node, or at the final word with so many entries.
+// Where a pass stopped: after the end of the open node, at the final word with so many entries, or at a fault. Not a Result:
+// reading takes up to 1.3 times as long with it, since an enum inside an enum is copied whole.
 #[derive(Clone, Copy)]
 enum Progress {
     Ended(Cursor),
     Complete(usize),
+    Refused(Fault),
 }
 
 // What is known of a good blob without its entries: its areas, with the strings cut after their last 0, and how many reservations
@@ -96,10 +98,12 @@ pub fn fault_place(seen: Result<Surveyed, Fault>) -> usize
 }
 
 // Writes an entry as the n-th of a list, if the list has room for it.
+#[tactic(auto, unfolding(crate::specs::Pass::put))]
 fn put_entry(list: &mut [u32], n: usize, t: Entry)
     ensures { list.new ≡ put list.old n t }
 {
     if n < list.len() / 4 {
+        // by index: with `copy_from_slice` reading takes 4 to 10 % longer
         let i = n * 4;
         list[i] = t.token;
         list[i + 1] = t.place;
@@ -110,14 +114,7 @@ fn put_entry(list: &mut [u32], n: usize, t: Entry)
 
 // Reads a node from its begin on, which is the n-th entry: the begin, all that is in the node, and its end.
 #[cycle(children_node)]
-fn node(
-    blob: &[u8],
-    a: Areas,
-    t: Entry,
-    next: State,
-    n: usize,
-    list: &mut [u32],
-) -> Result<Progress, Fault>
+fn node(blob: &[u8], a: Areas, t: Entry, next: State, n: usize, list: &mut [u32]) -> Progress
     requires { Trimmed blob.now a × (Stands a next × (n < next.at)) }
     ensures { Continues blob.now a (put list.old n t) (after next n) list.new result }
 {
@@ -132,36 +129,42 @@ fn node(
 // Reads all that is in a node: its properties, its children, each of which is a node again, and its end. Outside every node it
 // reads to the final word.
 #[cycle(children_node)]
-fn children(blob: &[u8], a: Areas, from: Cursor, list: &mut [u32]) -> Result<Progress, Fault>
+fn children(blob: &[u8], a: Areas, from: Cursor, list: &mut [u32]) -> Progress
     requires { Trimmed blob.now a × Placed a from }
     ensures { Continues blob.now a list.old from list.new result }
 {
     let mut c = from;
     loop {
+        let s = c.state;
         let n = c.count;
-        let Some((t, next)) = token_at(blob, a, c.state)? else {
-            return Ok(Progress::Complete(n));
-        };
-        if t.token == FDT_BEGIN_NODE {
-            let child = node(blob, a, t, next, n, list)?;
-            let Progress::Ended(d) = child else {
-                return Ok(child);
-            };
-            c = d;
-        } else {
-            put_entry(list, n, t);
-            c = Cursor {
-                state: next,
-                count: n + 1,
-            };
-            if t.token == FDT_END_NODE {
-                return Ok(Progress::Ended(c));
+        let taken = token_at(blob, a, s);
+        match taken {
+            Token::Refused(fault) => return Progress::Refused(fault),
+            Token::Final => return Progress::Complete(n),
+            Token::Entry(t, next) => {
+                if t.token == FDT_BEGIN_NODE {
+                    let child = node(blob, a, t, next, n, list);
+                    let Progress::Ended(d) = child else {
+                        return child;
+                    };
+                    c = d;
+                } else {
+                    put_entry(list, n, t);
+                    c = Cursor {
+                        state: next,
+                        count: n + 1,
+                    };
+                    if t.token == FDT_END_NODE {
+                        return Progress::Ended(c);
+                    }
+                }
             }
         }
     }
 }
 
 // Where a pass begins.
+#[tactic(auto, unfolding(fdt_format::specs::Walk::walk_start))]
 fn first(a: Areas) -> Cursor
     ensures { result ≡ first a }
 {
@@ -180,9 +183,9 @@ fn count_entries(blob: &[u8], a: Areas) -> Result<usize, Fault>
     requires { Trimmed blob.now a × (a.structure ≤ a.structure_end) }
     ensures { result ≡ counted_walk (reader_walk blob.now a (walk_start a)) }
 {
-    let pass = children(blob, a, first(a), &mut [])?;
-    match pass {
+    match children(blob, a, first(a), &mut []) {
         Progress::Complete(n) => Ok(n),
+        Progress::Refused(fault) => Err(fault),
         // no node is open, so none ends
         Progress::Ended(_) => Ok(0),
     }
@@ -233,7 +236,7 @@ pub fn read(blob: &[u8], list: &mut [u32]) -> Result<Values, ReadError>
         return Err(ReadError::ShortList);
     }
     // the survey met no fault, so this pass meets none
-    let _ = children(blob, seen.areas, first(seen.areas), list);
+    children(blob, seen.areas, first(seen.areas), list);
     Ok(Values {
         boot: seen.areas.boot,
         reservations: seen.reservations,

@@ -6,8 +6,6 @@ use Prim.Native.Nat.{ℕ, zero, suc, ◌-◌, ◌≤◌, ◌<◌}
 use native.Mathlib.Omega.{arith}
 use borrow.Author.Tests.{ltb-true, ltb-false}
 use lib.Dec.{ltb}
-use Rattle.std.specs.declared.result.Result.{Result}
-use Rattle.std.specs.declared.result.Result.TheVariants.{Ok, Err}
 use Rattle.fdt_format.specs.declared.Areas.{Areas}
 use Rattle.fdt_format.specs.declared.Entry.{Entry}
 use Rattle.fdt_format.specs.declared.State.{State}
@@ -98,15 +96,15 @@ module _ (b : List ℕ) (a : Areas) where
 
   by_step : (on : State → Walk) (on' : State → ReaderWalk) (s : State) → s.depth ≤ most_open
       → ((s' : State) → s'.depth ≤ most_open → Beside b (most_open - s'.depth) (on s') (on' s'))
-      → (x : Result Step Unreadable) → Stepped b a s x → Beside b (most_open - s.depth) (follow s x on) (capped s x on')
+      → (x : Step) → Stepped b a s x → Beside b (most_open - s.depth) (follow s x on) (capped s x on')
   unfolding Stepped capped Shallow
-  by_step on on' s h ih (Ok (step.Entry t s')) m =
+  by_step on on' s h ih (step.Entry t s') m =
       by_test (Beside b (most_open - s.depth) (goodMore t (on s'))) (ltb most_open s'.depth) _ _
       (λ d. beside_deep t s.at m.1 h (ltb-true _ _ d) (on s'))
       λ d. beside_more t m.1 h (ltb-false _ _ d) (ih s' (ltb-false _ _ d))
-  by_step on on' s h ih (Ok step.Skip) m = ih (past s) h
-  by_step on on' s h ih (Ok step.Final) m = both [] tt
-  by_step on on' s h ih (Err r) m = neither r _
+  by_step on on' s h ih step.Skip m = ih (past s) h
+  by_step on on' s h ih step.Final m = both [] tt
+  by_step on on' s h ih (step.Bad r) m = neither r _
 
   steps_beside : (k : ℕ) (s : State) → s.depth ≤ most_open → Beside b (most_open - s.depth) (steps (step_at b a) k s) (reader_steps b a k s)
   unfolding steps reader_steps

@@ -6,8 +6,6 @@ use Prim.Native.Nat.{ℕ, zero, suc, ◌+◌, ◌-◌, ◌≤◌, ◌<◌}
 use native.Mathlib.Omega.{arith}
 use borrow.Author.Tests.{ltb-true, ltb-false, lt-ltb, le-ltb}
 use lib.Dec.{ltb}
-use Rattle.std.specs.declared.result.Result.{Result}
-use Rattle.std.specs.declared.result.Result.TheVariants.{Ok, Err}
 use Rattle.fdt_bytes.specs.BigEndian.{word_at}
 use Rattle.fdt_format.specs.declared.Areas.{Areas}
 use Rattle.fdt_format.specs.declared.Entry.{Entry}
@@ -41,21 +39,21 @@ module _ (b : List ℕ) (a : Areas) where
     here : (s : State) → Reached b a s → {r : Refusal} → Wrong b a s r → refused_at s.at r ≡ stops f → Meets b a f
     here s h {r} w q = let e : record { refusal = r; place = s.at } ≡ f = cc in subst (Meets b a) e (record { state = s; reached = h; wrong = w; place = refl })
 
-    by_reason : (s : State) → Reached b a s → (reason : Reason) → step_at b a s ≡ Err reason → (reason ≡ Structure) ⊎ (reason ≡ NameOffset)
+    by_reason : (s : State) → Reached b a s → (reason : Reason) → step_at b a s ≡ step.Bad reason → (reason ≡ Structure) ⊎ (reason ≡ NameOffset)
         → refused_at s.at (Unreadable reason) ≡ stops f → Meets b a f
     by_reason s h reason e (inl k) q = here s h (structure (rw k at e)) (rw k at q)
     by_reason s h reason e (inr k) q = here s h (name_offset (rw k at e)) (rw k at q)
 
     by_step : (on : State → ReaderWalk) (s : State) → Reached b a s → ((s' : State) → Reached b a s' → Moved a s s' → on s' ≡ stops f → Meets b a f)
-        → (x : Result Step Reason) → step_at b a s ≡ x → Stepped b a s x → capped s x on ≡ stops f → Meets b a f
+        → (x : Step) → step_at b a s ≡ x → Stepped b a s x → capped s x on ≡ stops f → Meets b a f
     unfolding Stepped capped
-    by_step on s h ih (Ok (step.Entry t s')) e k =
+    by_step on s h ih (step.Entry t s') e k =
         by_test (λ (w : ReaderWalk). w ≡ stops f → Meets b a f) (ltb most_open s'.depth) _ _
         (λ d. here s h (depth e (ltb-true _ _ d)))
         λ d q. ih s' (next h e (ltb-false _ _ d)) k.0 (more-stops t (on s') f q)
-    by_step on s h ih (Ok step.Skip) e k = ih (past s) (skipped h e) (skip_moved b a s k)
-    by_step on s h ih (Ok step.Final) e k = λ q. absurd (let z : ◌≡◌ {A = ℕ} 0 1 = cc in omega arith)
-    by_step on s h ih (Err reason) e k = by_reason s h reason e k
+    by_step on s h ih step.Skip e k = ih (past s) (skipped h e) (skip_moved b a s k)
+    by_step on s h ih step.Final e k = λ q. absurd (let z : ◌≡◌ {A = ℕ} 0 1 = cc in omega arith)
+    by_step on s h ih (step.Bad reason) e k = by_reason s h reason e k
 
     by_steps : (k : ℕ) (s : State) → Reached b a s → a.structure_end - s.at < k → reader_steps b a k s ≡ stops f → Meets b a f
     unfolding reader_steps
@@ -90,7 +88,7 @@ module _ (b : List ℕ) (a : Areas) where
   pub no_fault_at_4 : {f : Fault} → Meets b a f → f.place + 4 ≤ a.structure_end → word_at b f.place ≡ skip_token → ⊥
   no_fault_at_4 m h w = go m.wrong
     where
-      skip : step_at b a m.state ≡ Ok step.Skip
+      skip : step_at b a m.state ≡ step.Skip
       skip = step_skip b a m.state (rw (← m.place) h) (rw (← m.place) w)
 
       go : {r : Refusal} → Wrong b a m.state r → ⊥
@@ -99,11 +97,11 @@ module _ (b : List ℕ) (a : Areas) where
       go (depth e d) = let z : ◌≡◌ {A = ℕ} 0 1 = cc skip in omega arith
 
   -- after an entry a walk that skips none still does, and it is not at a word 4
-  entry_on : {s : State} {t : Entry} {s' : State} → SkipsNone b a s → step_at b a s ≡ Ok (step.Entry t s') → SkipsNone b a s'
+  entry_on : {s : State} {t : Entry} {s' : State} → SkipsNone b a s → step_at b a s ≡ step.Entry t s' → SkipsNone b a s'
   entry_on (at_final q) e = absurd (let z : ◌≡◌ {A = ℕ} 0 1 = cc in omega arith)
   entry_on {s' = s'} (at_entry {s' = u} q n) e = let same : u ≡ s' = cc in subst (SkipsNone b a) same n
 
-  not_skip : {s : State} → SkipsNone b a s → step_at b a s ≡ Ok step.Skip → ⊥
+  not_skip : {s : State} → SkipsNone b a s → step_at b a s ≡ step.Skip → ⊥
   not_skip (at_final q) e = let z : ◌≡◌ {A = ℕ} 0 1 = cc in omega arith
   not_skip (at_entry q n) e = let z : ◌≡◌ {A = ℕ} 0 1 = cc in omega arith
 

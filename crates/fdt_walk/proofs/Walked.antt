@@ -1,12 +1,9 @@
 -- A reader's walk is its first step and the walk after it, so a word 4 makes no difference; the strings may be cut after their last 0.
-use mathlib.Core.Path.{◌≡◌, refl, ap, subst, ◌∙◌}
+use mathlib.Core.Path.{◌≡◌, refl, sym, subst, ◌∙◌}
 use mathlib.Core.List.{List}
 use Prim.Native.Nat.{ℕ, zero, suc, ◌+◌, ◌-◌, ◌≤◌, ◌<◌}
 use native.Mathlib.Omega.{arith}
 use borrow.Author.Tests.{lt-ltb, le-ltb, ne_eqb}
-use Rattle.std.specs.declared.option.Option.TheVariants.{None, Some}
-use Rattle.std.specs.declared.result.Result.{Result}
-use Rattle.std.specs.declared.result.Result.TheVariants.{Ok, Err}
 use Rattle.fdt_format.specs.declared.Areas.{Areas}
 use Rattle.fdt_format.specs.declared.Entry.{Entry}
 use Rattle.fdt_format.specs.declared.State.{State}
@@ -22,22 +19,23 @@ use Rattle.fdt_format.proofs.Steps.{event_begins, event_ends, Stepped, step_step
 use Rattle.fdt_format.proofs.Walks.{first_step}
 use Rattle.fdt_read_token.specs.Trimmed.{trimmed}
 use Rattle.fdt_read_token.proofs.Trimmed.{step_trimmed}
-use Rattle.fdt_walk.specs.declared.Fault.{Fault}
 use Rattle.fdt_walk.specs.declared.Refusal.TheVariants.{Unreadable, Depth}
+use Rattle.fdt_walk.specs.declared.Token.{Token}
+use Rattle.fdt_walk.specs.declared.Token.TheVariants as token
 use Rattle.fdt_walk.specs.Depth.{most_open}
 use Rattle.fdt_walk.specs.ReaderWalk.{ReaderWalk, capped, reader_steps, reader_walk}
-use Rattle.fdt_walk.specs.Token.{placed, Token, Goes, Takes}
+use Rattle.fdt_walk.specs.Token.{Goes, Takes}
 
 -- ---- the first token
 
 -- what follows a token is the same for two walks that agree after it
-capped_same : (b : List ℕ) (a : Areas) (s : State) (x : Result Step Reason) → Stepped b a s x → (g h : State → ReaderWalk) → ((s' : State) → Moved a s s' → g s' ≡ h s')
+capped_same : (b : List ℕ) (a : Areas) (s : State) (x : Step) → Stepped b a s x → (g h : State → ReaderWalk) → ((s' : State) → Moved a s s' → g s' ≡ h s')
     → capped s x g ≡ capped s x h
 unfolding Stepped capped
-capped_same b a s (Ok (step.Entry t s')) m g h same = rw (same s' m.0)
-capped_same b a s (Ok step.Skip) m g h same = same (past s) (skip_moved b a s m)
-capped_same b a s (Ok step.Final) m g h same = refl
-capped_same b a s (Err reason) m g h same = refl
+capped_same b a s (step.Entry t s') m g h same = rw (same s' m.0)
+capped_same b a s step.Skip m g h same = same (past s) (skip_moved b a s m)
+capped_same b a s step.Final m g h same = refl
+capped_same b a s (step.Bad reason) m g h same = refl
 
 -- a walk is its first token and the walk after it
 pub reader_step : (b : List ℕ) (a : Areas) (s : State) → reader_walk b a s ≡ capped s (step_at b a s) (reader_walk b a)
@@ -60,61 +58,48 @@ kind-past (closes e d r) = closes e d r
 -- what a token after a word 4 does, it does from the word on
 goes-past : (b : List ℕ) (a : Areas) (s : State) (r : Token) → Goes b a (past s) r → Goes b a s r
 unfolding Goes
-goes-past b a s (Ok (Some e)) n = record {
+goes-past b a s (token.Entry t s') n = record {
   moved = record { on = omega (arith, n.moved.on); within = n.moved.within };
   shallow = n.shallow;
   kind = kind-past n.kind;
 }
-goes-past b a s (Ok None) n = n
-goes-past b a s (Err fault) n = tt
-
--- what was read where a token is
-pub was_ok : {A : Type 0} (place : ℕ) (r : Result A Reason) {x : A} → ◌≡◌ {A = Result A Fault} (Ok x) (placed place r) → r ≡ Ok x
-was_ok place (Ok y) q = cc
-was_ok place (Err reason) q = absurd (let z : ◌≡◌ {A = ℕ} 0 1 = cc in omega arith)
-
-pub was_err : {A : Type 0} (place : ℕ) (r : Result A Reason) {f : Fault} → ◌≡◌ {A = Result A Fault} (Err f) (placed place r) → (reason : Reason) × (r ≡ Err reason) × (f ≡ record { refusal = Unreadable reason; place = place })
-was_err place (Ok y) q = absurd (let z : ◌≡◌ {A = ℕ} 0 1 = cc in omega arith)
-was_err place (Err reason) q = (reason, refl, cc)
+goes-past b a s token.Final n = n
+goes-past b a s (token.Refused fault) n = tt
 
 -- a step that is read, and how it moves the state
-known : (b : List ℕ) (a : Areas) (s : State) {x y : Step} → ◌≡◌ {A = Result Step Fault} (Ok x) (placed s.at (step_at b a s)) → x ≡ y → (step_at b a s ≡ Ok y) × Stepped b a s (Ok y)
-known b a s q e = let r = was_ok s.at (step_at b a s) q ∙ ap Ok e in (r, subst (Stepped b a s) r (step_stepped b a s))
+known : (b : List ℕ) (a : Areas) (s : State) {x y : Step} → x ≡ step_at b a s → x ≡ y → (step_at b a s ≡ y) × Stepped b a s y
+known b a s q e = let r = sym q ∙ e in (r, subst (Stepped b a s) r (step_stepped b a s))
 
--- each token that is read, as a reader takes it
-module _ {b : List ℕ} {a : Areas} {s : State} where
-  takes_refused : {f : Fault} (reason : Reason) → step_at b a s ≡ Err reason → f ≡ record { refusal = Unreadable reason; place = s.at } → Takes b a s (Err f)
+-- each step that is read, as a reader takes it
+module _ {b : List ℕ} {a : Areas} {s : State} {x : Step} (q : x ≡ step_at b a s) where
+  pub takes_final : x ≡ step.Final → Takes b a s token.Final
+  unfolding capped Stepped Goes
+  takes_final e = let k = known b a s q e in record { tells = reader_step b a s ∙ rw k.0; goes = k.1 }
+
+  pub takes_bad : {reason : Reason} → x ≡ step.Bad reason → Takes b a s (token.Refused (record { refusal = Unreadable reason; place = s.at }))
   unfolding capped Goes
-  takes_refused reason e p = record { tells = reader_step b a s ∙ rw (e, p); goes = tt }
+  takes_bad e = let k = known b a s q e in record { tells = reader_step b a s ∙ rw k.0; goes = tt }
 
-  pub takes_bad : {f : Fault} → ◌≡◌ {A = Result Step Fault} (Err f) (placed s.at (step_at b a s)) → Takes b a s (Err f)
-  takes_bad q = let r = was_err s.at (step_at b a s) q in takes_refused r.0 r.1 r.2
+  module _ {t : Entry} {s' : State} (e : x ≡ step.Entry t s') where
+    pub takes_deep : most_open < s'.depth → Takes b a s (token.Refused (record { refusal = Depth; place = s.at }))
+    unfolding capped Goes
+    takes_deep deep = let k = known b a s q e in record { tells = reader_step b a s ∙ rw (k.0, lt-ltb _ _ deep); goes = tt }
 
-  module _ {x : Step} (q : ◌≡◌ {A = Result Step Fault} (Ok x) (placed s.at (step_at b a s))) where
-    pub takes_final : x ≡ step.Final → Takes b a s (Ok None)
+    pub takes_entry : s'.depth ≤ most_open → Takes b a s (token.Entry t s')
     unfolding capped Stepped Goes
-    takes_final e = let k = known b a s q e in record { tells = reader_step b a s ∙ rw k.0; goes = k.1 }
-
-    module _ {t : Entry} {s' : State} (e : x ≡ step.Entry t s') where
-      pub takes_deep : most_open < s'.depth → Takes b a s (Err (record { refusal = Depth; place = s.at }))
-      unfolding capped Goes
-      takes_deep deep = let k = known b a s q e in record { tells = reader_step b a s ∙ rw (k.0, lt-ltb _ _ deep); goes = tt }
-
-      pub takes_entry : s'.depth ≤ most_open → Takes b a s (Ok (Some (t, s')))
-      unfolding capped Stepped Goes
-      takes_entry few =
-          let k = known b a s q e in
-          record {
-            tells = reader_step b a s ∙ rw (k.0, le-ltb _ _ few);
-            goes = record { moved = k.1.0; shallow = few; kind = k.1.1 };
-          }
-
-    -- the token after a word 4 is the one that is taken
-    pub takes_skip : x ≡ step.Skip → Moved a s (past s) × ((r : Token) → Takes b a (past s) r → Takes b a s r)
-    unfolding capped Stepped
-    takes_skip e =
+    takes_entry few =
         let k = known b a s q e in
-        (skip_moved b a s k.1, λ r h. record { tells = reader_step b a s ∙ rw k.0 h.tells; goes = goes-past b a s r h.goes })
+        record {
+          tells = reader_step b a s ∙ rw (k.0, le-ltb _ _ few);
+          goes = record { moved = k.1.0; shallow = few; kind = k.1.1 };
+        }
+
+  -- the token after a word 4 is the one that is taken
+  pub takes_skip : x ≡ step.Skip → Moved a s (past s) × ((r : Token) → Takes b a (past s) r → Takes b a s r)
+  unfolding capped Stepped
+  takes_skip e =
+      let k = known b a s q e in
+      (skip_moved b a s k.1, λ r h. record { tells = reader_step b a s ∙ rw k.0 h.tells; goes = goes-past b a s r h.goes })
 
 -- ---- the kind of an entry, by its token
 

@@ -1,11 +1,10 @@
 -- What a reader finds in a structure: the entries that the reading finds, or the first fault (document 02, request 1/14).
-use Rattle.std.specs.Prelude.{cond, List, [], ◌∷◌, ℕ, zero, suc, ◌-◌, ltb, Result, Ok, Err}
+use Rattle.std.specs.Prelude.{cond, List, [], ◌∷◌, ℕ, zero, suc, ◌-◌, ltb}
 use Rattle.fdt_format.specs.declared.Areas.{Areas}
 use Rattle.fdt_format.specs.declared.Entry.{Entry}
 use Rattle.fdt_format.specs.declared.State.{State}
 use Rattle.fdt_format.specs.declared.Step.{Step}
 use Rattle.fdt_format.specs.declared.Step.TheVariants as step
-use Rattle.fdt_format.specs.declared.Unreadable.{Unreadable as Reason}
 use Rattle.fdt_format.specs.declared.Unreadable.TheVariants.{Structure}
 use Rattle.fdt_format.specs.Step.{past, step_at}
 use Rattle.fdt_walk.specs.declared.Fault.{Fault}
@@ -28,11 +27,11 @@ abbrev pub refused_at : ℕ → Refusal → ReaderWalk
 refused_at place r = stops (record { refusal = r; place = place })
 
 -- the token at a state, and the walk after it; a word 4 is skipped. The reading's own refusals come first: structure, then name offset. Depth is the last.
-unfoldable pub capped : State → Result Step Reason → (State → ReaderWalk) → ReaderWalk
-capped s (Ok (step.Entry t s')) on = cond (ltb most_open s'.depth) (refused_at s.at Depth) (more t (on s'))
-capped s (Ok step.Skip) on = on (past s)
-capped s (Ok step.Final) on = reads []
-capped s (Err reason) on = refused_at s.at (Unreadable reason)
+unfoldable pub capped : State → Step → (State → ReaderWalk) → ReaderWalk
+capped s (step.Entry t s') on = cond (ltb most_open s'.depth) (refused_at s.at Depth) (more t (on s'))
+capped s step.Skip on = on (past s)
+capped s step.Final on = reads []
+capped s (step.Bad reason) on = refused_at s.at (Unreadable reason)
 
 -- at most k tokens
 unfoldable pub reader_steps : List ℕ → Areas → ℕ → State → ReaderWalk

@@ -2,11 +2,9 @@
 #![tactic(auto)]
 
 ghost use Rattle.std.specs.Prelude.{◌≡◌};
-ghost use Rattle.fdt_read_token.specs.Inside.{InStructure};
 ghost use Rattle.fdt_read_token.specs.Trimmed.{Trimmed};
 ghost use Rattle.fdt_walk.specs.Refusals.{number_of};
-ghost use Rattle.fdt_format.specs.Step.{step_at};
-ghost use Rattle.fdt_walk.specs.Token.{Stands, placed, Takes};
+ghost use Rattle.fdt_walk.specs.Token.{Stands, Takes};
 
 use fdt_format::{Areas, Entry, State, Step, Unreadable};
 use fdt_read_token::step_at;
@@ -33,6 +31,15 @@ pub struct Fault {
     pub place: usize,
 }
 
+// The next token from a state on: an entry with the state after it, the final word, or a fault. Not a Result of an Option: reading
+// takes up to 1.3 times as long with it, since an enum inside an enum is copied whole.
+#[derive(Clone, Copy)]
+pub enum Token {
+    Entry(Entry, State),
+    Final,
+    Refused(Fault),
+}
+
 // The number of a refusal. A function of its name, since `into` would not say at a call which number is meant.
 pub fn number(refusal: Refusal) -> u32
     ensures { result ≡ number_of refusal }
@@ -44,38 +51,33 @@ pub fn number(refusal: Refusal) -> u32
     }
 }
 
-// Reads the token at a state. A refusal is a fault at the token's place.
-fn read_at(blob: &[u8], a: Areas, s: State) -> Result<Step, Fault>
-    requires { Trimmed blob.now a × InStructure a s }
-    ensures { result ≡ placed s.at (step_at blob.now a s) }
-{
-    step_at(blob, a, s).map_err(|reason| Fault {
-        refusal: Refusal::Unreadable(reason),
-        place: s.at,
-    })
-}
-
-// Takes the next token from a state on: an entry with the state after it, or `None` at the final word. Words 4 before it are
-// skipped, and the place of a fault is the token's. It promises how the walk goes on, that the place moves on and what kind of entry
-// it is, not which token it is.
-pub fn token_at(blob: &[u8], a: Areas, s: State) -> Result<Option<(Entry, State)>, Fault>
+// Takes the next token from a state on. Words 4 before it are skipped, and the place of a fault is the token's. It promises how
+// the walk goes on, that the place moves on and what kind of entry it is, not which token it is.
+pub fn token_at(blob: &[u8], a: Areas, s: State) -> Token
     requires { Trimmed blob.now a × Stands a s }
     ensures { Takes blob.now a s result }
 {
     let mut here = s;
     loop {
-        let step = read_at(blob, a, here)?;
-        match step {
+        let place = here.at;
+        let read = step_at(blob, a, here);
+        match read {
             Step::Skip => here.at += 4,
-            Step::Final => return Ok(None),
+            Step::Final => return Token::Final,
+            Step::Bad(reason) => {
+                return Token::Refused(Fault {
+                    refusal: Refusal::Unreadable(reason),
+                    place,
+                });
+            }
             Step::Entry(t, next) => {
                 if MOST_OPEN < next.depth {
-                    return Err(Fault {
+                    return Token::Refused(Fault {
                         refusal: Refusal::Depth,
-                        place: here.at,
+                        place,
                     });
                 }
-                return Ok(Some((t, next)));
+                return Token::Entry(t, next);
             }
         }
     }

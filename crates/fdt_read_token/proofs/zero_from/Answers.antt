@@ -4,6 +4,9 @@ use native.Mathlib.Omega.{arith}
 use Rattle.fdt_format.proofs.Steps.{zero_none, zero_here, zero_on}
 use Rattle.fdt_read_token.proofs.zero_from.Goals as goal
 
+pub returns-then-end-at : goal.returns-then-end-at
+returns-then-end-at c = sym (zero_none _ _ _ (omega arith))
+
 pub returns-then-blob-place-eq0 : goal.returns-then-blob-place-eq0
 returns-then-blob-place-eq0 c =
     sym (zero_here _ _ _ c.loop-place-test.true c.if-blob-place-eq0.true) ∙ c.loop-place.invariant.1
@@ -16,4 +19,4 @@ loop-place-preserved c =
     (omega arith, sym (zero_on _ _ _ c.loop-place-test.true c.if-blob-place-eq0.false) ∙ c.loop-place.invariant.1)
 
 pub returns : goal.returns
-returns c = omega (arith, c.loop-place.invariant, c.max.ensures, zero_none c.args.blob.now c.args.end c.loop-place.place c.loop-place-test.false)
+returns c = omega (arith, c.loop-place.invariant.1, zero_none c.args.blob.now c.args.end c.loop-place.place c.loop-place-test.false)

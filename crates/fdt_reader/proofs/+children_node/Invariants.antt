@@ -9,8 +9,8 @@ decreases-children l = calls_below l.from.state
 abbrev pub decreases-node : goal.decreases-node
 decreases-node l = suc (calls_below l.next)
 
-abbrev pub invariant-children-loop-t : goal.invariant-children-loop-t
-invariant-children-loop-t l = Onward l.blob l.a l.initial.list l.initial.c l.list l.c
+abbrev pub invariant-children-loop-fault : goal.invariant-children-loop-fault
+invariant-children-loop-fault l = Onward l.blob l.a l.initial.list l.initial.c l.list l.c
 
-abbrev pub decreases-children-loop-t : goal.decreases-children-loop-t
-decreases-children-loop-t l = l.a.structure_end - l.c.state.at
+abbrev pub decreases-children-loop-fault : goal.decreases-children-loop-fault
+decreases-children-loop-fault l = l.a.structure_end - l.c.state.at
