@@ -5,7 +5,6 @@ use Rattle.fdt_bytes.specs.BigEndian.{cell_bytes}
 use Rattle.fdt_bytes.specs.Padding.{round_up, zeros}
 use Rattle.fdt_bytes.specs.Splice.{splice}
 use Rattle.fdt_strings.specs.declared.Interned.{Interned}
-use Rattle.fdt_strings.specs.declared.StringRoom.{StringRoom}
 use Rattle.fdt_strings.specs.Entries.{entry}
 use Rattle.fdt_format.specs.Tokens.{property_token}
 use Rattle.fdt_values.specs.Value.{Value, value_bytes, misfit_value, zero_value}
@@ -15,19 +14,19 @@ use Rattle.fdt_record.specs.declared.Record.{Record}
 use Rattle.fdt_record.specs.Answers.{Done}
 use Rattle.fdt_properties.specs.declared.Tested.{Tested}
 use Rattle.fdt_properties.specs.declared.Placed.{Placed}
-use Rattle.fdt_properties.specs.Property.{place_of, place_offset, added, property_record, property_answer, PropertyOutcome}
+use Rattle.fdt_properties.specs.Property.{Place, place_of, place_offset, added, property_record, property_answer, PropertyOutcome}
 
 -- what the tests of a value find: 17 or 5, or how many bytes it takes
 unfoldable pub measure : Value → Result ℕ Error
 measure v = cond (misfit_value v) (Err error.Misfit) (cond (zero_value v) (Err error.InvalidString) (Ok (length (value_bytes v))))
 
 -- the name's place once 15 and 20 are passed
-abbrev pub tested_place : Result Interned StringRoom → Bool → Result Interned Error
+abbrev pub tested_place : Place → Bool → Result Interned Error
 tested_place (Ok place) repeated = cond repeated (Err error.DuplicateProperty) (Ok place)
 tested_place (Err full) repeated = Err error.StringRoom
 
 -- a name that adds bytes fits at its offset
-abbrev pub NameFits : (place : Result Interned StringRoom) (name strings : List ℕ) → Type 0
+abbrev pub NameFits : (place : Place) (name strings : List ℕ) → Type 0
 NameFits place name strings = (added place name ≡ 0 → ⊥) → place_offset place + length (entry name) ≤ length strings
 
 -- a property with `len` bytes of value ends within the blob, and its figures fit into words

@@ -6,14 +6,13 @@ use Rattle.fdt_names.specs.Grammar.{matches}
 use Rattle.fdt_names.specs.Names.{property_name, has_zero}
 use Rattle.fdt_strings.specs.declared.Interned.{Interned}
 use Rattle.fdt_strings.specs.declared.Interned.TheVariants.{Known, New}
-use Rattle.fdt_strings.specs.declared.StringRoom.{StringRoom}
+use Rattle.fdt_strings.specs.declared.StringRoom as no_room
 use Rattle.fdt_strings.specs.Entries.{entry}
 use Rattle.fdt_strings.specs.Interned.{interned}
 use Rattle.fdt_format.specs.LookBack.{look_back}
 use Rattle.fdt_format.specs.Tokens.{property_bytes}
 use Rattle.fdt_values.specs.Value.{Value, value_bytes, misfit_value, zero_value}
-use Rattle.fdt_record.specs.declared.Error.TheVariants.{Misfit, PropertyAfterEndNode, PropertyBeforeBeginNode, InvalidString, InvalidPropertyName, DuplicateProperty, BlobRoom}
-use Rattle.fdt_record.specs.declared.Error.TheVariants as error
+use Rattle.fdt_record.specs.declared.Error.TheVariants.{Misfit, PropertyAfterEndNode, PropertyBeforeBeginNode, InvalidString, InvalidPropertyName, DuplicateProperty, StringRoom, BlobRoom}
 use Rattle.fdt_record.specs.declared.Outcome.{Outcome}
 use Rattle.fdt_record.specs.declared.Record.{Record}
 use Rattle.fdt_record.specs.Answers.{Answer, upon}
@@ -22,40 +21,44 @@ use Rattle.fdt_record.specs.Misfits.{overfull}
 use Rattle.fdt_record.specs.Rows.{Row, ◌⇒◌, first}
 use Rattle.fdt_record.specs.Tests.{strings_rows}
 
+-- a name's place, or none: a new name and its 0 don't fit
+abbrev pub Place : Type 0
+Place = Result Interned no_room.StringRoom
+
 -- the name's place: its offset in the used strings, the offset for a new name, or no room
-unfoldable pub place_of : Record → List ℕ → List ℕ → Result Interned StringRoom
+unfoldable pub place_of : Record → List ℕ → List ℕ → Place
 place_of w strings name = interned (take w.strings_used strings) w.strings_room name
 
 -- the name is stored
-unfoldable pub is_known : Result Interned StringRoom → Bool
+unfoldable pub is_known : Place → Bool
 is_known (Ok (Known offset)) = true
 is_known (Ok (New offset)) = false
 is_known (Err full) = false
 
 -- a new name and its 0 don't fit
-unfoldable pub is_full : Result Interned StringRoom → Bool
+unfoldable pub is_full : Place → Bool
 is_full (Ok place) = false
 is_full (Err full) = true
 
 -- the name's offset: the value that its place has
-unfoldable pub place_offset : Result Interned StringRoom → ℕ
+unfoldable pub place_offset : Place → ℕ
 place_offset (Ok (Known offset)) = offset
 place_offset (Ok (New offset)) = offset
 place_offset (Err full) = 0
 
 -- the open node already has a property of the name: the name is stored, and the look back from where the node's properties start to the
 -- used length meets its offset
-unfoldable pub is_repeated : Record → List ℕ → Result Interned StringRoom → Bool
+unfoldable pub is_repeated : Record → List ℕ → Place → Bool
 is_repeated w blob p = is_known p && look_back blob w.blob_used (place_offset p) w.node_start
 
 -- how many bytes a new name adds to the used strings
-unfoldable pub added : Result Interned StringRoom → List ℕ → ℕ
+unfoldable pub added : Place → List ℕ → ℕ
 added (Ok (Known offset)) name = 0
 added (Ok (New offset)) name = length (entry name)
 added (Err full) name = 0
 
 -- the strings with a new name stored, with its 0
-unfoldable pub stored : Result Interned StringRoom → List ℕ → List ℕ → List ℕ
+unfoldable pub stored : Place → List ℕ → List ℕ → List ℕ
 stored (Ok (Known offset)) name strings = strings
 stored (Ok (New offset)) name strings = splice offset (entry name) strings
 stored (Err full) name strings = strings
@@ -88,7 +91,7 @@ name_rows name = (has_zero name ⇒ InvalidString) ∷ (not (matches property_na
 unfoldable pub place_rows : Record → List ℕ → List ℕ → List ℕ → Value → List Row
 place_rows w blob strings name v =
     (is_repeated w blob (place_of w strings name) ⇒ DuplicateProperty)
-    ∷ (is_full (place_of w strings name) ⇒ error.StringRoom)
+    ∷ (is_full (place_of w strings name) ⇒ StringRoom)
     ∷ (overfull (property_record w strings name v) ⇒ BlobRoom)
     ∷ []
 
