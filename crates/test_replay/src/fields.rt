@@ -36,7 +36,7 @@ pub fn apart(r: Record) -> [u64; 12] {
     ]
 }
 
-// A record with the field set that the line names.
+// A record with the field set that the line names, as a report names it.
 pub fn with(before: Record, line: &[u8]) -> Record {
     let mut r = before;
     let n = numbers::number(line, 2);

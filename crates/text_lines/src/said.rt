@@ -17,7 +17,7 @@ pub enum Style {
 }
 
 // Writes a space, or nothing.
-pub fn gap(out: &mut impl Write, is: bool) -> io::Result<()> {
+fn gap(out: &mut impl Write, is: bool) -> io::Result<()> {
     if is { out.write_all(b" ") } else { Ok(()) }
 }
 
