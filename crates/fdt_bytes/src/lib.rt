@@ -52,7 +52,7 @@ impl Cell for u64 {
     }
 }
 
-// Writes a number of 4 bytes to the front of the rest.
+// Writes a number of 4 bytes to the front of the rest. `Cell::append` at u32 under its own name, which other crates call.
 pub fn append_u32(rest: &mut [u8], val: u32)
     requires { 4 ≤ length rest.old }
     ensures { rest.new ≡ over (big_endian 4 val) rest.old }
@@ -60,7 +60,7 @@ pub fn append_u32(rest: &mut [u8], val: u32)
     append_bytes(rest, &u32::to_be_bytes(val));
 }
 
-// Writes a number of 8 bytes to the front of the rest.
+// Writes a number of 8 bytes to the front of the rest. `Cell::append` at u64 under its own name, which other crates call.
 pub fn append_u64(rest: &mut [u8], val: u64)
     requires { 8 ≤ length rest.old }
     ensures { rest.new ≡ over (big_endian 8 val) rest.old }
