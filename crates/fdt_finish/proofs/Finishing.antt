@@ -2,7 +2,7 @@
 use mathlib.Core.Path.{◌≡◌, refl, sym, ap, subst, ◌∙◌}
 use mathlib.Core.Bool.{Bool, true, false}
 use mathlib.Core.List.{List}
-use Prim.Native.Nat.{ℕ, ◌+◌, ◌*◌, ◌≤◌, ◌<◌}
+use Prim.Native.Nat.{ℕ, ◌+◌, ◌*◌, ◌^◌, ◌≤◌, ◌<◌}
 use native.Mathlib.Nat.{zero-add}
 use native.Mathlib.Omega.{arith}
 use borrow.Author.Tests.{eqb-true, not-false}
@@ -21,8 +21,10 @@ use Rattle.fdt_format.proofs.Tokens.{length_final}
 use Rattle.fdt_record.specs.declared.Record.{Record}
 use Rattle.fdt_record.specs.Answers.{Done, accepts, upon}
 use Rattle.fdt_record.specs.Limits.{blob_ceiling}
+use Rattle.fdt_record.specs.Rows.{first}
 use Rattle.fdt_record.specs.Tests.{alone_rows, blob_rows, strings_rows}
 use Rattle.fdt_record.proofs.Answers.{accepts-done, upon-done, upon-refused}
+use Rattle.fdt_record.proofs.FirstTests.{strings-passed}
 use Rattle.fdt_record.proofs.Fits.{FitBlob, fit_blob, FitStrings, fit_strings, not_overfull}
 use Rattle.fdt_record.proofs.Rows.{ByName, by_name, Exactly, exactly}
 use Rattle.fdt_finish.specs.Finish.{used_strings, finish_rows, finish_answer, finished_record, finished_blob, finish_blob}
@@ -76,6 +78,16 @@ finish-fits w lent strings e =
       within = b.within;
       stored = omega (arith, s.used, s.within);
     })
+
+-- what `finish_tests` asks of a record that passed the first tests, and `finish` of one that passed all
+pub finish_small : (w : Record) (lent : ℕ) (strings : List ℕ) → first (strings_rows w lent strings) ≡ Done → w.blob_used + (4 + w.strings_used) < 2 ^ 64
+finish_small w lent strings e =
+    let p = strings-passed w lent strings e in omega (arith, p.blob.used, p.blob.small, p.strings.used, p.strings.small)
+
+pub finish_within : (w : Record) (lent : ℕ) (strings : List ℕ) → finish_answer w lent strings ≡ Done → (structure_start w.reservations ≤ w.blob_used) × (w.blob_used + (4 + w.strings_used) < 2 ^ 32) × (w.blob_used + (4 + w.strings_used) ≤ lent) × (w.strings_used ≤ length strings)
+finish_within w lent strings e =
+    let f = finish-fits w lent strings e in
+    (f.started, omega (arith, f.room, f.small), omega (arith, f.room, f.within), f.stored)
 
 module _ (w : Record) (blob strings : List ℕ) where
   -- what goes into the rest and then the header

@@ -47,7 +47,7 @@ fn after_finish(w: Record) -> Record
 }
 
 // The tests of a finish, in their order.
-#[tactic(auto, unfolding(fdt_record::specs::Rows::first, fdt_record::specs::Tests::alone_rows, fdt_record::specs::Tests::blob_rows, fdt_record::specs::Tests::strings_rows, crate::specs::Finish::finish_rows, crate::specs::Finish::finish_answer))]
+#[tactic(auto, unfolding(fdt_record::specs::Rows::first, fdt_record::specs::Tests::alone_rows, fdt_record::specs::Tests::blob_rows, fdt_record::specs::Tests::strings_rows, crate::specs::Finish::finish_rows, crate::specs::Finish::finish_answer), using(crate::proofs::Finishing::finish_small))]
 fn finish_tests(w: Record, lent: usize, strings: &[u8]) -> Result<(), Error>
     ensures { result ≡ finish_answer w lent strings.now }
 {
@@ -101,6 +101,7 @@ fn put_finish(w: Record, blob: &mut [u8], strings: &[u8])
 }
 
 // Finishes a blob: word 9 and the strings go into the rest, and the header is rewritten.
+#[tactic(auto, using(crate::proofs::Finishing::finish_within))]
 pub fn finish(w: Record, blob: &mut [u8], strings: &[u8]) -> Outcome<()>
     ensures { FinishOutcome w blob.old strings.now result blob.new }
 {

@@ -21,8 +21,10 @@ use Rattle.fdt_record.specs.declared.Error.{Error}
 use Rattle.fdt_record.specs.declared.Record.{Record}
 use Rattle.fdt_record.specs.Answers.{Answer, Done, giving, accepts, upon}
 use Rattle.fdt_record.proofs.Answers.{upon-done, upon-err}
-use Rattle.fdt_record.specs.Limits.{most_depth}
+use Rattle.fdt_record.specs.Limits.{blob_ceiling, most_depth}
+use Rattle.fdt_record.specs.Rows.{first}
 use Rattle.fdt_record.specs.Tests.{alone_rows, blob_rows}
+use Rattle.fdt_record.proofs.FirstTests.{blob-passed}
 use Rattle.fdt_record.proofs.Fits.{FitBlob, fit_blob, not_overfull}
 use Rattle.fdt_record.proofs.Rows.{ByName, by_name, Exactly, exactly}
 use Rattle.fdt_record.specs.declared.Outcome.{Outcome}
@@ -52,6 +54,10 @@ put-begin name rest r₁ r₂ r₃ e₁ e₂ e₃ room =
     ∙ splice-three 0 4 (4 + (length name + 1)) word (entry name) (zeros k) rest (omega arith) (omega arith) (omega arith)
     ∙ ap (λ (j : ℕ). over (word ++ (entry name ++ zeros j)) rest) (padding-after_word (length name + 1) ∙ ap (padding 4) (sym m))
 
+-- what `begin_tests` and `end_tests` ask of a record that passed the first tests
+pub used_small : (w : Record) (lent : ℕ) → first (blob_rows w lent) ≡ Done → w.blob_used ≤ blob_ceiling
+used_small w lent e = let p = blob-passed w lent e in omega (arith, p.blob.used, p.blob.small)
+
 module _ (w : Record) (lent : ℕ) (name : List ℕ) where
   pub begin_exactly : Exactly (begin_rows w lent name) (begin_answer w lent name)
   unfolding begin_answer
@@ -75,6 +81,12 @@ module _ (w : Record) (lent : ℕ) (name : List ℕ) where
         plain = zero;
         room = not_overfull (begun_record w name) over;
       })
+
+-- what `begin_node` asks of an accepted begin
+pub begin_within : (w : Record) (lent : ℕ) (name : List ℕ) → begin_answer w lent name ≡ Done → (w.blob_used + length (begin_bytes name) ≤ lent) × (w.blob_used ≤ blob_ceiling) × (w.node_depth ≤ most_depth)
+begin_within w lent name e =
+    let f = begin-fits w lent name e in
+    (omega (arith, f.room, f.blob.within), omega (arith, f.blob.used, f.blob.small), omega (arith, f.depth))
 
 -- What a begin gives, by its answer.
 module _ (w : Record) (blob name : List ℕ) where

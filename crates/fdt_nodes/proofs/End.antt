@@ -16,6 +16,7 @@ use Rattle.fdt_record.specs.declared.Error.{Error}
 use Rattle.fdt_record.specs.declared.Record.{Record}
 use Rattle.fdt_record.specs.Answers.{Done}
 use Rattle.fdt_record.proofs.Answers.{upon-done, upon-err, outcome-accepted, outcome-refused}
+use Rattle.fdt_record.specs.Limits.{blob_ceiling}
 use Rattle.fdt_record.specs.Tests.{alone_rows, blob_rows}
 use Rattle.fdt_bytes.proofs.Tests.{neither}
 use Rattle.fdt_record.proofs.Fits.{FitBlob, fit_blob, not_overfull}
@@ -44,6 +45,12 @@ module _ (w : Record) (lent handle : ℕ) where
         depth = omega arith;
         room = omega (arith, not_overfull (ended_record w) over, length-end);
       })
+
+-- what `end_node` asks of an accepted end
+pub end_within : (w : Record) (lent handle : ℕ) → end_answer w lent handle ≡ Done → (w.blob_used + 4 ≤ lent) × (w.blob_used ≤ blob_ceiling) × (0 < w.node_depth)
+end_within w lent handle e =
+    let f = end_fits w lent handle e in
+    (omega (arith, f.room, f.blob.within), omega (arith, f.blob.used, f.blob.small), f.depth)
 
 -- What an end gives, by its answer.
 module _ (w : Record) (blob : List ℕ) (handle : ℕ) where

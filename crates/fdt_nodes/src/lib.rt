@@ -40,7 +40,7 @@ fn after_begin(w: Record, name: &[u8]) -> Record
 }
 
 // The tests of a begin, in their order.
-#[tactic(auto, unfolding(fdt_record::specs::Rows::first, fdt_record::specs::Tests::alone_rows, fdt_record::specs::Tests::blob_rows, crate::specs::Begin::begin_rows, crate::specs::Begin::begin_answer))]
+#[tactic(auto, unfolding(fdt_record::specs::Rows::first, fdt_record::specs::Tests::alone_rows, fdt_record::specs::Tests::blob_rows, crate::specs::Begin::begin_rows, crate::specs::Begin::begin_answer), using(crate::proofs::Begin::used_small))]
 fn begin_tests(w: Record, lent: usize, name: &[u8]) -> Result<(), Error>
     ensures { result ≡ begin_answer w lent name.now }
 {
@@ -72,7 +72,7 @@ fn put_begin(rest: &mut [u8], name: &[u8])
 }
 
 // Begins a node: its bytes go into the rest of the blob, and its handle is the new depth.
-#[tactic(auto, unfolding(crate::specs::Begin::begin, crate::specs::Begin::begin_blob))]
+#[tactic(auto, using(crate::proofs::Begin::begin_within))]
 pub fn begin_node(w: Record, blob: &mut [u8], name: &[u8]) -> Outcome<FdtWriterNode>
     ensures { BeginOutcome w blob.old name.now result blob.new }
 {
@@ -106,7 +106,7 @@ fn after_end(w: Record) -> Record
 }
 
 // The tests of an end, in their order.
-#[tactic(auto, unfolding(fdt_record::specs::Rows::first, fdt_record::specs::Tests::alone_rows, fdt_record::specs::Tests::blob_rows, crate::specs::End::end_rows, crate::specs::End::end_answer))]
+#[tactic(auto, unfolding(fdt_record::specs::Rows::first, fdt_record::specs::Tests::alone_rows, fdt_record::specs::Tests::blob_rows, crate::specs::End::end_rows, crate::specs::End::end_answer), using(crate::proofs::Begin::used_small))]
 fn end_tests(w: Record, lent: usize, node: FdtWriterNode) -> Result<(), Error>
     ensures { result ≡ end_answer w lent node.0 }
 {
@@ -121,7 +121,7 @@ fn end_tests(w: Record, lent: usize, node: FdtWriterNode) -> Result<(), Error>
 }
 
 // Ends the node that is open at the handle's depth.
-#[tactic(auto, unfolding(crate::specs::End::end, crate::specs::End::end_blob))]
+#[tactic(auto, using(crate::proofs::End::end_within))]
 pub fn end_node(w: Record, blob: &mut [u8], node: FdtWriterNode) -> Outcome<()>
     ensures { EndOutcome w blob.old node.0 result blob.new }
 {

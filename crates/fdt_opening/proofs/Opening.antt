@@ -74,6 +74,10 @@ opened-fits lent strings phandles numbers e =
       room = omega (arith, (usable-within blob_ceiling lent).0);
     })
 
+-- what `open` asks of an accepted opening
+pub opened_within : (lent strings phandles : ℕ) (numbers : List ℕ) → opening_answer lent strings phandles numbers ≡ Done → (56 + 8 * length numbers ≤ lent) × (count numbers ≤ most_reservations)
+opened_within lent strings phandles numbers e = let f = opened-fits lent strings phandles numbers e in (f.room, f.few)
+
 module _ (blob : List ℕ) (strings phandles : ℕ) (numbers : List ℕ) where
   -- what an accepted opening writes
   pub accepted-blob : opening_answer (length blob) strings phandles numbers ≡ Done → opening_blob blob strings phandles numbers ≡ splice 0 (opening_bytes numbers) blob

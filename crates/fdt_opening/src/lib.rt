@@ -99,6 +99,7 @@ fn closed() -> Record
 }
 
 // Opens a writer over three buffers, with reservations given as address and size in turn.
+#[tactic(auto, using(crate::proofs::Opening::opened_within))]
 pub fn open(
     blob: &mut [u8],
     strings: &[u8],

@@ -1,10 +1,9 @@
 -- `finish` meets its contract: where its tests are passed what it writes fits, and otherwise nothing changes.
-use Rattle.std.proofs.Common.{sym, ap, ◌∙◌, arith}
+use Rattle.std.proofs.Common.{sym, ap, ◌∙◌}
 use Rattle.fdt_record.specs.Answers.{Done}
 use Rattle.fdt_record.specs.declared.Record.{Record}
 use Rattle.fdt_record.proofs.Answers.{upon-done, upon-err, outcome-accepted, outcome-refused}
 use Rattle.fdt_finish.specs.Finish.{finish, finish_blob}
-use Rattle.fdt_finish.proofs.Finishing.{finish-fits}
 use Rattle.fdt_finish.proofs.finish.Goals as goal
 
 pub returns-in-Err : goal.returns-in-Err
@@ -12,20 +11,6 @@ unfolding finish finish_blob
 returns-in-Err c =
     let e = sym c.finish_tests.ensures ∙ c.in-Err.is in
     record { result = outcome-refused _ _ e; bytes = sym (upon-err _ _ e) }
-
-pub put_finish-requires : goal.put_finish-requires
-put_finish-requires c =
-    let f = finish-fits _ _ _ (sym c.finish_tests.ensures ∙ c.in_default.is) in
-    record {
-      started = f.started;
-      total = omega (arith, f.room, f.small);
-      room = omega (arith, f.room, f.within);
-      strings_lent = f.stored;
-    }
-
-pub after_finish-requires : goal.after_finish-requires
-after_finish-requires c =
-    let f = finish-fits _ _ _ (sym c.finish_tests.ensures ∙ c.in_default.is) in omega (arith, f.room, f.small)
 
 pub returns : goal.returns
 unfolding finish finish_blob

