@@ -15,7 +15,7 @@ use lib.Pow.{are_bytes, pow-add}
 use Rattle.std.specs.Int.{byte_at, byte_worth, bytes_high_first, sum_through}
 use Rattle.std.specs.List.{flat_map}
 use Rattle.std.proofs.lemmas.Grind.{flat_map-append}
-use Rattle.fdt_bytes.specs.BigEndian.{big_endian, from_big_endian, number_at, word_at, wide_at, cell_bytes}
+use Rattle.fdt_bytes.specs.BigEndian.{big_endian, from_big_endian, number_at, word_at, cell_bytes}
 
 pub length-big_endian : (width v : ℕ) → length (big_endian width v) ≡ width
 unfolding big_endian

@@ -2,11 +2,10 @@
 use mathlib.Core.Path.{◌≡◌, sym, ap, ◌∙◌}
 use mathlib.Core.List.{List, [], ◌∷◌, ◌++◌, append_assoc, append-nil}
 use Prim.Native.Nat.{ℕ, ◌+◌, ◌-◌, ◌≤◌, ◌<◌}
-use native.Mathlib.Nat.{zero-add}
 use native.Mathlib.Numerals.{add-one}
 use native.Mathlib.Omega.{arith}
 use lib.ListN.{length, take, drop, set, get_or, get_or-append, length-append, length-take, length-drop, drop_of_length-le}
-use lib.Seq.{sets, sets-eq, set_split, take_all, take-take, take-add, take-append-le, take_at, drop_at, drop-drop, length-take-le, get_or-append-add, get_or-take, get_or-drop}
+use lib.Seq.{set_split, take_all, take-take, take-add, take-append-le, take_at, drop_at, drop-drop, length-take-le, get_or-append-add, get_or-take, get_or-drop}
 use borrow.Rule.Slice.PartMut.{put_mid}
 use Rattle.fdt_bytes.specs.Splice.{over, splice}
 

@@ -1,7 +1,9 @@
--- `read_u32` meets its contract: `from_be_bytes` is the number of the definition (`read_high_first`).
-use mathlib.Core.Path.{◌∙◌}
-use Rattle.fdt_bytes.proofs.BigEndian.{read_high_first}
+-- `read_u32` meets its contract: it sums the four bytes of the word (`word_bytes`).
+use mathlib.Core.Path.{sym}
+use Rattle.fdt_bytes.proofs.BigEndian.{word_bytes}
 use Rattle.fdt_bytes.proofs.read_u32.Goals as goal
 
 pub returns : goal.returns
-returns c = c.from_be_bytes.ensures ∙ rw c.bytes_from.ensures (read_high_first 3 _ _ c.requires)
+returns c =
+    rw (c.widened.ensures.0, c.widened-2.ensures.0, c.widened-3.ensures.0, c.widened-4.ensures.0)
+    (sym (word_bytes _ _ c.requires))
