@@ -1,4 +1,5 @@
-// The writer for C and Rust: lent and changed in place, with answers as numbers. include/geirovund.h has the same functions.
+// The writer for C and Rust: lent and changed in place, with answers as numbers. include/geirovund.h has the same functions. C has no
+// generics, so each width of numbers has functions of its own.
 #![tactic(auto)]
 
 ghost use Rattle.std.specs.Prelude.{◌≡◌, List, ℕ};

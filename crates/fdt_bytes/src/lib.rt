@@ -75,7 +75,8 @@ fn widened(byte: u8) -> u32
     u32::from(byte)
 }
 
-// Reads the number of 4 bytes at a place. By its bytes: a reading takes 1.1 to 2 times as long with `from_be_bytes`.
+// Reads the number of 4 bytes at a place. By its bytes: a reading takes 1.1 to 2 times as long with `from_be_bytes`. Both widths keep
+// their names, which other crates call.
 pub fn read_u32(bytes: &[u8], at: usize) -> u32
     requires { at + 4 ≤ length bytes.now }
     ensures { result ≡ word_at bytes.now at }

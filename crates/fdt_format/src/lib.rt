@@ -41,7 +41,8 @@ pub struct State {
     pub takes_property: bool,
 }
 
-// A token that was read: its word, its place, the place of its name, and the length of its value.
+// A token that was read: its word, its place, the place of its name, and the length of its value. Numbers, as the reader's list has
+// them for C.
 #[derive(Clone, Copy)]
 pub struct Entry {
     pub token: u32,
@@ -73,7 +74,7 @@ pub fn number(refusal: Unreadable) -> u32
 }
 
 // The token at a state: an entry with the state after it, a word 4, which is skipped, the final word, or a refusal. Not a Result:
-// reading takes up to 1.8 times as long with it, since an enum inside an enum is copied whole.
+// a reading through Results took 1.3 to 2.6 times as long, since an enum inside an enum is copied whole.
 #[derive(Clone, Copy)]
 pub enum Step {
     Entry(Entry, State),

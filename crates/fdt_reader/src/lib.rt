@@ -23,7 +23,7 @@ struct Cursor {
 }
 
 // Where a pass stopped: after the end of the open node, at the final word with so many entries, or at a fault. Not a Result:
-// reading takes up to 1.3 times as long with it, since an enum inside an enum is copied whole.
+// a reading through Results took 1.3 to 2.6 times as long, since an enum inside an enum is copied whole.
 #[derive(Clone, Copy)]
 enum Progress {
     Ended(Cursor),

@@ -47,7 +47,7 @@ fn share_address(one: FdtReserveEntry, other: FdtReserveEntry) -> bool
     one.address - other.address < other.size
 }
 
-// Reservation `k` of a list of addresses and sizes in turn.
+// Reservation `k` of a list of addresses and sizes in turn, as C lends it.
 #[tactic(auto, unfolding(crate::specs::Overlap::entry_at, crate::specs::Overlap::start, crate::specs::Overlap::size))]
 pub fn entry_at(mem_reservations: &[u64], k: usize) -> FdtReserveEntry
     requires { k < length mem_reservations.now / 2 }

@@ -22,8 +22,18 @@ const LENGTHS: usize = 64;
 const PAIRS: usize = 136;
 
 impl Desk {
+    // Opens a writer without reservations.
+    fn open(&mut self) {
+        let a = FdtWriter::new(
+            self.blob.front_mut(),
+            self.strings.front(),
+            self.phandles.front(),
+        );
+        self.keep(a);
+    }
+
     // Opens a writer with reservations.
-    fn open(&mut self, pairs: &[u64]) {
+    fn open_with(&mut self, pairs: &[u64]) {
         let a = FdtWriter::new_with_mem_reserv(
             self.blob.front_mut(),
             self.strings.front(),
@@ -97,8 +107,8 @@ impl Desk {
     // Makes the call that a line asks for.
     pub fn call(&mut self, call: Call, line: &[u8]) -> Result<(), AllocError> {
         match call {
-            Call::New => self.open(&[]),
-            Call::NewWithMemReserv => self.open(&numbers::numbers(
+            Call::New => self.open(),
+            Call::NewWithMemReserv => self.open_with(&numbers::numbers(
                 self.alloc,
                 line,
                 1,
