@@ -1,19 +1,14 @@
 -- Laws of the search for a name: what its tests say of the bytes, and how far it has come.
-use mathlib.Core.Path.{◌≡◌, refl, sym, ap, ◌∙◌}
-use mathlib.Core.Bool.{Bool, true, false, not, true≢false}
+use mathlib.Core.Path.{◌≡◌, refl, sym, ◌∙◌}
+use mathlib.Core.Bool.{Bool, true, false}
 use mathlib.Core.List.{List, ◌∷◌}
-use mathlib.Core.Logic.{◌↔◌}
 use Prim.Native.Nat.{ℕ, zero, suc, ◌+◌, ◌-◌, ◌≤◌, ◌<◌}
 use native.Mathlib.Omega.{arith}
 use borrow.Author.Tests.{ltb-true, ltb-false}
 use lib.Dec.{ltb}
-use lib.ListN.{length, take, drop, get_or, get_or-eq_default, length-take, length-drop}
-use lib.Seq.{get_or-take, get_or-drop, ext_get_or}
-use Rattle.std.specs.Bool.{Decides}
-use Rattle.std.specs.List.{HoldsAt}
-use Rattle.std.proofs.lemmas.List.{get_or_default}
+use lib.ListN.{length, get_or, get_or-eq_default}
 use Rattle.fdt_search.specs.Clues.{ClueOf, CluesOf, HasClues, Nowhere}
-use Rattle.fdt_search.specs.FirstEntry.{PlainByte, EntryAt, NoEntry}
+use Rattle.fdt_search.specs.FirstEntry.{EntryAt, NoEntry}
 use Rattle.fdt_search.specs.declared.Clue.{Clue}
 use Rattle.fdt_search.specs.declared.Clues.{Clues}
 
@@ -26,32 +21,6 @@ below_join P mid to low high k h = go (ltb k mid) refl
     go false e = high k (ltb-false k mid e) h
 
 -- ---- entries
-
-module _ (s name : List ℕ) (place : ℕ) (room : place + length name ≤ length s) where
-  -- as many bytes at the place as the name has
-  abbrev pub part : List ℕ
-  part = take (place + length name - place) (drop place s)
-
-  part_byte : (k : ℕ) → k < length name → get_or part k 0 ≡ get_or s (place + k) 0
-  part_byte k l =
-      get_or-take (place + length name - place) (drop place s) k 0 (omega arith) ∙ get_or-drop place s k 0
-
-  -- a name whose bytes are plain is there
-  pub part_is : ((k : ℕ) → k < length name → PlainByte s name place k) → part ≡ name
-  part_is all =
-      let long : length part ≡ length name = simp (length-take, length-drop) (omega arith) in
-      ext_get_or 0 part name long (λ k l. let m : k < length name = omega arith in part_byte k m ∙ (all k m).same)
-
-  -- the name is there: its bytes are plain exactly if it has no 0
-  pub plain_if : part ≡ name → (has : Bool) → Decides has ((k : ℕ) × (k < length name) × HoldsAt (λ y. y ≡ 0) name k) → not has ≡ true ↔ ((k : ℕ) → k < length name → PlainByte s name place k)
-  plain_if e true d = let w = d.0 refl in (λ h. absurd (true≢false (sym h)), λ all. absurd ((all w.0 w.1).plain (w.2 0)))
-  plain_if e false d = (
-    λ h k l. record {
-      same = sym (part_byte k l) ∙ ap (λ (x : List ℕ). get_or x k 0) e;
-      plain = λ z. true≢false (sym (d.1 (k, l, λ x. get_or_default name k x 0 l ∙ z)));
-    },
-    λ all. refl,
-  )
 
 module _ (s name : List ℕ) where
   -- an entry after a gap has there the 0 before it, its bytes and the 0 after it
