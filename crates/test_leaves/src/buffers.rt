@@ -3,8 +3,8 @@ use crate::cases::spelled;
 use std::alloc::Global;
 use std::io;
 use std::io::Write;
-use text_lines::said::Style;
-use text_lines::{numbers, said};
+use text_lines::numbers;
+use text_lines::said::{Bytes, Style};
 
 // Writes into a buffer, if there is room. `store` and `update_u32` write from a place on; a call that is not listed is taken for
 // `align`, which aligns a length to 4.
@@ -44,5 +44,10 @@ pub fn answer(
     let mut buffer = spelled(alloc, given, 0)?;
     let bytes = spelled(alloc, given, 1)?;
     change(call, &mut buffer, at, &bytes, numbers::number(given, 1));
-    said::bytes(out, &buffer, Style::Bytes, false)
+    let text = Bytes {
+        bytes: &buffer,
+        style: Style::Bytes,
+        led: false,
+    };
+    write!(out, "{text}")
 }

@@ -39,7 +39,7 @@ fn answer(alloc: Global, out: &mut impl Write, asked: &[u8], given: &[u8]) -> io
         b"zero" => told(out, !fdt_names::has_zero(&name), 5),
         b"reservation" => reservation(out, numbers::number(asked, 1), numbers::number(asked, 2)),
         b"overlap" => {
-            let pairs = numbers::numbers(alloc, asked, 1, PAIRS, |n| n)?;
+            let pairs = numbers::values(alloc, asked, 1, PAIRS, |n| n)?;
             told(out, !fdt_reserve::check_overlapping(&pairs), 9)
         }
         b"find" => strings::find(out, &spelled(alloc, asked, 3)?, &name),

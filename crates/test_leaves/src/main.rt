@@ -14,7 +14,7 @@ const MOST: usize = 65_536;
 
 // Runs each case.
 fn run(rt: &HostRuntime) -> io::Result<()> {
-    let input = text_words::input::read_full(rt, MOST)?;
+    let input = text_words::input::front(rt, MOST)?;
     let mut out = BufWriter::new(rt.alloc(), io::writer(rt))?;
     cases::each(rt.alloc(), &mut out, &input)?;
     out.flush()

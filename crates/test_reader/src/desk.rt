@@ -2,7 +2,8 @@
 use std::alloc::{AllocError, Global};
 use std::io;
 use std::io::Write;
-use text_lines::{lists, numbers, said, spelling, sums};
+use text_lines::said::Values;
+use text_lines::{lists, numbers, spelling, sums};
 
 // How long the array is that blobs are read from.
 const BLOB: usize = 65_600;
@@ -63,8 +64,9 @@ impl Desk {
             }
             b"list" => {
                 let to = (numbers::number(line, 2) as usize).min(self.room);
-                said::numbers(out, text_words::part(&self.list, first, to), false)?;
-                out.write_all(b"\n")?;
+                let list = text_words::part(&self.list, first, to);
+                let text = Values { list, led: false };
+                writeln!(out, "{text}")?;
             }
             _ => {
                 out.write_all(line)?;

@@ -86,17 +86,17 @@ impl Desk {
             Kind::Null => w.property_null(blob, strings, &name),
             Kind::String => w.property_string(blob, strings, &name, &value),
             Kind::StringList => {
-                let lengths = numbers::numbers(alloc, line, 3, LENGTHS, |n| n as usize)?;
+                let lengths = numbers::values(alloc, line, 3, LENGTHS, |n| n as usize)?;
                 w.property_string_list(blob, strings, &name, &value, &lengths)
             }
             Kind::U32 => w.property_u32(blob, strings, &name, numbers::cell(line, 2)),
             Kind::U64 => w.property_u64(blob, strings, &name, numbers::number(line, 2)),
             Kind::ArrayU32 => {
-                let cells = numbers::numbers(alloc, line, 2, NUMBERS, numbers::low)?;
+                let cells = numbers::values(alloc, line, 2, NUMBERS, numbers::low)?;
                 w.property_array_u32(blob, strings, &name, &cells)
             }
             Kind::ArrayU64 => {
-                let list = numbers::numbers(alloc, line, 2, NUMBERS, |n| n)?;
+                let list = numbers::values(alloc, line, 2, NUMBERS, |n| n)?;
                 w.property_array_u64(blob, strings, &name, &list)
             }
         };
@@ -108,7 +108,7 @@ impl Desk {
     pub fn call(&mut self, call: Call, line: &[u8]) -> Result<(), AllocError> {
         match call {
             Call::New => self.open(),
-            Call::NewWithMemReserv => self.open_with(&numbers::numbers(
+            Call::NewWithMemReserv => self.open_with(&numbers::values(
                 self.alloc,
                 line,
                 1,

@@ -33,7 +33,7 @@ impl Desk {
             Change::PutBlob => lists::put(&mut self.blob.all, at, spelling::word(line, 2)),
             Change::PutStrings => lists::put(&mut self.strings.all, at, spelling::word(line, 2)),
             Change::PutPhandles => {
-                let cells = numbers::numbers(self.alloc, line, 2, PHANDLES, numbers::low)?;
+                let cells = numbers::values(self.alloc, line, 2, PHANDLES, numbers::low)?;
                 lists::put(&mut self.phandles.all, at, cells.into_iter());
             }
             Change::Set => self.writer = FdtWriter(fields::with(self.writer.0, line)),

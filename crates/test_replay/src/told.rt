@@ -4,20 +4,28 @@ use crate::verbs::{Call, Verb};
 use crate::{fields, looks};
 use std::io;
 use std::io::Write;
-use text_lines::{said, sums};
+use text_lines::said::Values;
+use text_lines::sums;
 
 // A report: what a call answered, the record's fields, and the check values of what it was lent.
 fn report(out: &mut impl Write, d: &Desk) -> io::Result<()> {
     let number = fdt_record::number(d.answer);
     let handle = d.answer.unwrap_or(0);
-    write!(out, "{number} {handle}")?;
-    said::numbers(out, &fields::apart(d.writer.0), true)?;
+    let fields = fields::apart(d.writer.0);
     let checks = [
         sums::bytes(d.blob.front()),
         sums::bytes(d.strings.front()),
         sums::table(d.phandles.front()),
     ];
-    said::numbers(out, &checks, true)
+    let fields = Values {
+        list: &fields,
+        led: true,
+    };
+    let checks = Values {
+        list: &checks,
+        led: true,
+    };
+    write!(out, "{number} {handle}{fields}{checks}")
 }
 
 // What a call answered, and the handle if it begins a node.

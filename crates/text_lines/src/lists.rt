@@ -11,7 +11,7 @@ const LIMIT: usize = 1_048_576;
 pub fn read(rt: &HostRuntime, out: &mut impl Write) -> io::Result<Option<Vec<u8>>>
     ensures { IfOk result (λ list. IfSome list (λ v. vec_len v < 1048576)) }
 {
-    let list = text_words::input::read_full(rt, LIMIT)?;
+    let list = text_words::input::front(rt, LIMIT)?;
     if list.len() < LIMIT {
         return Ok(Some(list));
     }

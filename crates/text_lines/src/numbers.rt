@@ -26,7 +26,7 @@ pub fn cell(line: &[u8], k: usize) -> u32 {
 }
 
 // The numbers of a line from word `first` on, at most so many, each as `of` converts it.
-pub fn numbers<T: Drop, F: Fn(u64) -> T + Drop>(
+pub fn values<T: Drop, F: Fn(u64) -> T + Drop>(
     alloc: Global,
     line: &[u8],
     first: usize,

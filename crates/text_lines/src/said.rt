@@ -1,12 +1,12 @@
-// Parts of a line, written out.
+// Parts of a line, as they are printed.
 ghost use Rattle.std.specs.Prelude.{◌≡◌, IfErr};
 ghost use Rattle.std.specs.IoError.{error_kind};
 
-use std::fmt::Display;
-use std::io;
-use std::io::{ErrorKind, Write};
+use std::fmt::{Display, Formatter, Write};
+use std::io::ErrorKind;
+use std::{fmt, io};
 
-// How bytes are written: as a word spells them or in two digits each, with one space before all of them; or in two digits
+// How bytes are printed: as a word spells them or in two digits each, with one space before all of them; or in two digits
 // each, with a space before every fourth or before each.
 #[derive(Clone, Copy, PartialEq, Eq)]
 pub enum Style {
@@ -16,18 +16,74 @@ pub enum Style {
     Bytes,
 }
 
-// Writes a space, or nothing.
-fn gap(out: &mut impl Write, is: bool) -> io::Result<()> {
-    if is { out.write_all(b" ") } else { Ok(()) }
+// Bytes in a style; without `led`, no space comes first.
+#[derive(Clone, Copy)]
+pub struct Bytes<'a> {
+    pub bytes: &'a [u8],
+    pub style: Style,
+    pub led: bool,
 }
 
-// Writes a byte as a word spells it.
-fn letter(out: &mut impl Write, b: u8) -> io::Result<()> {
+// Values with a space between two; with `led`, a space comes first.
+#[derive(Clone, Copy)]
+pub struct Values<'a, T> {
+    pub list: &'a [T],
+    pub led: bool,
+}
+
+// Words, each with a number of a list; with `led`, a space comes first.
+#[derive(Clone, Copy)]
+pub struct Named<'a> {
+    pub names: &'a [&'a str],
+    pub list: &'a [u64],
+    pub led: bool,
+}
+
+impl Display for Bytes<'_> {
+    fn fmt<W: Write>(&self, f: &mut Formatter<W>) -> fmt::Result {
+        for (i, b) in self.bytes.iter().enumerate() {
+            gap(f, begins(self.style, i) && (self.led || 0 < i))?;
+            match self.style {
+                Style::Letters => letter(f, *b)?,
+                _ => write!(f, "{b:02x}")?,
+            }
+        }
+        Ok(())
+    }
+}
+
+impl<T: Display> Display for Values<'_, T> {
+    fn fmt<W: Write>(&self, f: &mut Formatter<W>) -> fmt::Result {
+        for (i, value) in self.list.iter().enumerate() {
+            gap(f, self.led || 0 < i)?;
+            write!(f, "{value}")?;
+        }
+        Ok(())
+    }
+}
+
+impl Display for Named<'_> {
+    fn fmt<W: Write>(&self, f: &mut Formatter<W>) -> fmt::Result {
+        for (i, (name, n)) in self.names.iter().zip(self.list).enumerate() {
+            gap(f, self.led || 0 < i)?;
+            write!(f, "{name} {n}")?;
+        }
+        Ok(())
+    }
+}
+
+// Prints a space, or nothing.
+fn gap<W: Write>(f: &mut Formatter<W>, is: bool) -> fmt::Result {
+    if is { f.write_str(" ") } else { Ok(()) }
+}
+
+// Prints a byte as a word spells it.
+fn letter<W: Write>(f: &mut Formatter<W>, b: u8) -> fmt::Result {
     match b {
-        0 => out.write_all(b"~"),
-        b'\\' | b'~' => write!(out, "\\x{b:02x}"),
-        b if b.is_ascii_graphic() => out.write_all(&[b]),
-        _ => write!(out, "\\x{b:02x}"),
+        0 => f.write_str("~"),
+        b'\\' | b'~' => write!(f, "\\x{b:02x}"),
+        b if b.is_ascii_graphic() => f.write_char(char::from(b)),
+        _ => write!(f, "\\x{b:02x}"),
     }
 }
 
@@ -38,36 +94,6 @@ fn begins(style: Style, i: usize) -> bool {
         Style::Words => i % 4 == 0,
         Style::Bytes => true,
     }
-}
-
-// Writes bytes in a style; without `led`, no space comes first.
-pub fn bytes(out: &mut impl Write, s: &[u8], style: Style, led: bool) -> io::Result<()> {
-    for (i, b) in s.iter().enumerate() {
-        gap(out, begins(style, i) && (led || 0 < i))?;
-        match style {
-            Style::Letters => letter(out, *b)?,
-            _ => write!(out, "{b:02x}")?,
-        }
-    }
-    Ok(())
-}
-
-// Writes numbers with a space between two; with `led`, a space comes first.
-pub fn numbers<T: Display>(out: &mut impl Write, list: &[T], led: bool) -> io::Result<()> {
-    for (i, n) in list.iter().enumerate() {
-        gap(out, led || 0 < i)?;
-        write!(out, "{n}")?;
-    }
-    Ok(())
-}
-
-// Writes words, each with a number of a list; with `led`, a space comes first.
-pub fn named(out: &mut impl Write, names: &[&str], list: &[u64], led: bool) -> io::Result<()> {
-    for (i, (name, n)) in names.iter().zip(list).enumerate() {
-        gap(out, led || 0 < i)?;
-        write!(out, "{name} {n}")?;
-    }
-    Ok(())
 }
 
 // What a program ends with: output that cannot be written is left out, and only missing memory is an error.
