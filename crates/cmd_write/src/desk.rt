@@ -5,8 +5,8 @@ use fdt_writer::{Answered, FdtWriter};
 use std::alloc::{AllocError, AllocFailed, Global};
 use text_calls::line::{Call, Value};
 
-// The writer; its buffers, each as long as its ceiling; the reservations so far, two numbers each; and whether another call was
-// made.
+// The writer; its buffers, each as long as its ceiling; the reservations so far, address and size in turn as the writer takes
+// them; and whether another call was made.
 #[derive(Drop)]
 pub struct Desk {
     writer: FdtWriter,

@@ -17,7 +17,7 @@ pub fn spelled(alloc: Global, words: &[u8], k: usize) -> Result<Vec<u8>, AllocEr
     spelling::bytes(alloc, words, k, MOST)
 }
 
-// Writes 0 for a test that is passed, and otherwise the number of the refusal.
+// Writes 0 for a test that is passed, and otherwise the number of the refusal, which is part of the format of the cases.
 fn told(out: &mut impl Write, passed: bool, refusal: u32) -> io::Result<()> {
     write!(out, "{}", if passed { 0 } else { refusal })
 }

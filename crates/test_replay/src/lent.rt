@@ -1,7 +1,8 @@
 // An array of which a front is lent.
 use std::alloc::{AllocError, Global};
 
-// An array, and how much of its front the next calls are lent, or all if it is shorter.
+// An array, and how much of its front the next calls are lent, or all if it is shorter. The array outlives what is lent, so the count
+// is no length of it.
 #[derive(Drop)]
 pub struct Lent<T: Copy> {
     pub all: Vec<T>,

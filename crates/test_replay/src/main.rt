@@ -15,7 +15,7 @@ use std::io;
 use std::io::{BufWriter, Write};
 use text_lines::{lists, said};
 
-// Reads the list and runs it.
+// Reads the list and runs it. As in test_reader, except the desk: a function that takes its `run` as a closure would be no shorter.
 fn run(rt: &HostRuntime) -> io::Result<()> {
     let mut out = BufWriter::new(rt.alloc(), io::writer(rt))?;
     if let Some(list) = lists::read(rt, &mut out)? {

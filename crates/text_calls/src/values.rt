@@ -165,10 +165,15 @@ pub(crate) fn cell(word: &[u8]) -> Option<u32> {
     u32::try_from(number(word)?).ok()
 }
 
+// The byte of two hexadecimal digits.
+fn of_digits(high: u8, low: u8) -> Option<u8> {
+    Some(digit(high)? << 4 | digit(low)?)
+}
+
 // A byte in two hexadecimal digits.
 pub(crate) fn byte(word: &[u8]) -> Option<u8> {
     match word {
-        [high, low] => Some(digit(*high)? << 4 | digit(*low)?),
+        [high, low] => of_digits(*high, *low),
         _ => None,
     }
 }
@@ -178,7 +183,7 @@ fn character(text: &[u8]) -> Option<(u8, &[u8])>
     ensures { IfSome result (λ r. length r.1.now < length text.now) }
 {
     match text {
-        [b'\\', b'x', high, low, rest @ ..] => Some((digit(*high)? << 4 | digit(*low)?, rest)),
+        [b'\\', b'x', high, low, rest @ ..] => Some((of_digits(*high, *low)?, rest)),
         [b'\\', escape, rest @ ..] => Some((escaped(*escape)?, rest)),
         [] | [b'\\'] => None,
         [b, rest @ ..] => Some((*b, rest)),

@@ -1,5 +1,5 @@
 // Standard input, read whole.
-ghost use Rattle.std.specs.Prelude.{◌<◌, vec_len, IfOk};
+ghost use Rattle.std.specs.Prelude.{◌<◌, ◌≤◌, vec_len, IfOk};
 
 use std::alloc::AllocError;
 use std::io::Read;
@@ -25,8 +25,11 @@ pub fn read<R: Input + AllocGlobal>(rt: &R, limit: usize) -> Result<Vec<u8>, Ref
 
 // Reads standard input until it ends, cannot be read further or gave `most` bytes. There is room for one byte more, so that the
 // reading itself needs no memory.
-pub fn front<R: Input + AllocGlobal>(rt: &R, most: usize) -> Result<Vec<u8>, AllocError> {
+pub fn front<R: Input + AllocGlobal>(rt: &R, most: usize) -> Result<Vec<u8>, AllocError>
+    ensures { IfOk result (λ v. vec_len v ≤ most) }
+{
     let mut input = Vec::with_capacity(rt.alloc(), most.saturating_add(1))?;
     let _ = rt.reader().take(most as u64).read_to_end(&mut input);
+    input.truncate(most);
     Ok(input)
 }
