@@ -4,7 +4,7 @@
 ghost use Rattle.std.specs.Prelude.{◌≡◌, ◌+◌, ◌<◌, ◌≤◌, length, drop, position, eqb};
 ghost use Rattle.fdt_names.specs.Grammar.{all, matches};
 ghost use Rattle.fdt_names.specs.Index.{index_of};
-ghost use Rattle.fdt_names.specs.Names.{letter, name_byte, node_name, property_name, has_zero};
+ghost use Rattle.fdt_names.specs.Names.{letter, one_of, name_byte, node_name, property_name, has_zero};
 
 // The greatest length of a node name, without its unit address.
 pub const NODE_NAME_MAX_LEN: usize = 31;
@@ -17,6 +17,9 @@ const NODE_NAME_MARKS: [u8; 5] = *b",._+-";
 
 // What a property name may have besides letters and digits.
 const PROPERTY_NAME_MARKS: [u8; 7] = *b",._+?#-";
+
+// From so many bytes on, every byte is tested, so that many are tested at once: a test that stops early takes up to eight times as long.
+const MANY: usize = 32;
 
 // Whether a byte is a letter.
 #[tactic(auto, unfolding(crate::specs::Names::letter))]
@@ -39,6 +42,49 @@ fn all_valid_chars(s: &[u8], marks: &[u8]) -> bool
     ensures { result ≡ all (name_byte marks.now) s.now }
 {
     s.iter().all(|c| name_valid_char(*c, marks))
+}
+
+// Whether a byte is one of the marks. Every mark is compared.
+#[tactic(auto, unfolding(crate::specs::Names::one_of))]
+fn is_mark(marks: &[u8], c: u8) -> bool
+    ensures { result ≡ one_of marks.now c }
+{
+    let mut any = false;
+    for mark in marks {
+        any |= *mark == c;
+    }
+    any
+}
+
+// As `name_valid_char`, without a branch.
+#[tactic(auto, unfolding(crate::specs::Names::name_byte), using(crate::proofs::Names::letter_or_digit))]
+fn plain_valid_char(c: u8, marks: &[u8]) -> bool
+    ensures { result ≡ name_byte marks.now c }
+{
+    c.is_ascii_alphanumeric() | is_mark(marks, c)
+}
+
+// As `all_valid_chars`, with every byte tested.
+#[tactic(auto, unfolding(crate::specs::Grammar::all))]
+fn many_valid_chars(s: &[u8], marks: &[u8]) -> bool
+    ensures { result ≡ all (name_byte marks.now) s.now }
+{
+    let mut good = true;
+    for c in s {
+        good &= plain_valid_char(*c, marks);
+    }
+    good
+}
+
+// As `all_valid_chars`, of a unit address, which may be long.
+fn address_valid_chars(s: &[u8], marks: &[u8]) -> bool
+    ensures { result ≡ all (name_byte marks.now) s.now }
+{
+    if s.len() < MANY {
+        all_valid_chars(s, marks)
+    } else {
+        many_valid_chars(s, marks)
+    }
 }
 
 // The place of the first @.
@@ -77,7 +123,7 @@ pub fn node_name_valid(name: &[u8]) -> bool
         return true;
     }
     let next = at + 1;
-    all_valid_chars(&name[next..], &NODE_NAME_MARKS)
+    address_valid_chars(&name[next..], &NODE_NAME_MARKS)
 }
 
 // Whether the bytes are a property name.

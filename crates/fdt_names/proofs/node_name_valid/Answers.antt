@@ -48,4 +48,4 @@ returns-then-at-n c =
 pub returns : goal.returns
 unfolding node_byte
 returns c =
-    c.all_valid_chars-2.ensures ∙ simp part_to_end (sym (begun _ _ (omega arith) c.base_end-at.ensures.value (omega arith) c.node_name_valid_first_char.ensures c.if-not-node_name_valid_first_char.false ∙ and_yes c.all_valid_chars.ensures _ c.if-not-all_valid_chars.false))
+    c.address_valid_chars.ensures ∙ simp part_to_end (sym (begun _ _ (omega arith) c.base_end-at.ensures.value (omega arith) c.node_name_valid_first_char.ensures c.if-not-node_name_valid_first_char.false ∙ and_yes c.all_valid_chars.ensures _ c.if-not-all_valid_chars.false))
