@@ -9,7 +9,7 @@ use Rattle.fdt_names.specs.Names.{is, one_of, letter, digit, name_byte, node_byt
 use Rattle.fdt_reserve.specs.Entry.{invalid}
 use Rattle.fdt_reserve.specs.Overlap.{start, size, some_below, share, overlapping}
 use Rattle.fdt_strings.specs.Entries.{entry, with_byte, entries, same, first_from, find_string}
-use Rattle.fdt_strings.specs.Interned.{new_name, or_else, interned}
+use Rattle.fdt_strings.specs.Interned.{new_name, or_else, interned, number_of, values_of}
 use Rattle.fdt_format.specs.Tokens.{begin_bytes, property_bytes, end_bytes, final_bytes}
 use Rattle.fdt_header.specs.Header.{reservation_bytes, words_from, header_words, header_bytes}
 use Rattle.fdt_values.specs.Value.{value_bytes, misfit_value, zero_value}
@@ -42,5 +42,5 @@ node_run = record { before = lent_desk; numbers = []; calls = node_calls; opened
 
 -- both finish, and show their blob
 pub examples-shown : Finishes empty_run × (blob empty_run ≡ cell_bytes 4 empty_words) × Finishes node_run × (blob node_run ≡ cell_bytes 4 node_words)
-unfolding empty_run node_run Finishes blob desk opened_desk runs all_ask asks answer after lent_desk empty_calls empty_words node_calls node_words dirty big_endian cell_bytes padding round_up zeros padded over splice all in_two matches is one_of letter digit name_byte node_byte property_byte unit_address node_name property_name has_zero invalid start size some_below share overlapping entry with_byte entries same first_from find_string new_name or_else interned begin_bytes property_bytes end_bytes final_bytes reservation_bytes words_from header_words header_bytes value_bytes misfit_value zero_value accepts usable misfit_record misfit_room off_structure misfit_blob misfit_strings overfull first alone_rows blob_rows strings_rows some_invalid opening_rows opening_answer opened_record closed_record opening_bytes opening opening_blob begin_rows begin_answer begun_record begin begin_blob end_rows end_answer ended_record end end_blob place_of is_known is_full place_offset added stored written property_record state_rows name_rows is_repeated place_rows property_rows property_answer property property_blob property_strings used_strings finish_rows finish_answer finished_record finished_blob finish finish_blob showable shown
+unfolding empty_run node_run Finishes blob desk opened_desk runs all_ask asks answer after lent_desk empty_calls empty_words node_calls node_words dirty big_endian cell_bytes padding round_up zeros padded over splice all in_two matches is one_of letter digit name_byte node_byte property_byte unit_address node_name property_name has_zero invalid start size some_below share overlapping entry with_byte entries same first_from find_string new_name or_else interned begin_bytes property_bytes end_bytes final_bytes reservation_bytes words_from header_words header_bytes value_bytes misfit_value zero_value accepts usable misfit_record misfit_room off_structure misfit_blob misfit_strings overfull first alone_rows blob_rows strings_rows some_invalid opening_rows opening_answer opened_record closed_record opening_bytes opening opening_blob begin_rows begin_answer begun_record begin begin_blob end_rows end_answer ended_record end end_blob place_of is_known is_full number_of place_offset values_of added stored written property_record state_rows name_rows is_repeated place_rows property_rows property_answer property property_blob property_strings used_strings finish_rows finish_answer finished_record finished_blob finish finish_blob showable shown
 examples-shown = (refl, refl, refl, refl)

@@ -18,7 +18,7 @@ use Rattle.fdt_strings.specs.declared.Interned.{Interned}
 use Rattle.fdt_strings.specs.declared.StringRoom.{StringRoom}
 use Rattle.fdt_strings.specs.declared.Interned.TheVariants as place
 use Rattle.fdt_strings.specs.Entries.{found_values, entry, entries, first_from, find_string, joined, NoZero, no_byte, next_byte}
-use Rattle.fdt_strings.specs.Interned.{interned}
+use Rattle.fdt_strings.specs.Interned.{interned, number_of, values_of}
 use Rattle.fdt_strings.proofs.Entries.{PlainNames as PlainNames, entries-joined, joined-append, first-after, eq_same}
 use Rattle.fdt_strings.proofs.Places.{known_found, new-placed}
 use Rattle.fdt_format.specs.Events.{Event, begins, has, ends}
@@ -85,7 +85,7 @@ module _ {room used : ℕ} {strings : List ℕ} (name : List ℕ) {names : List 
   among g e = ap (λ (l : List (List ℕ)). first_from 0 l name) (sym (entries-joined plain) ∙ ap entries (sym f.part)) ∙ e
 
   pub named : is_full (interned (take used strings) room name) ≡ false → NameStored room used strings name names (interned (take used strings) room name)
-  unfolding is_full place_offset offset_of found_at found_values with_name or_at_end added stored first_from joined
+  unfolding is_full number_of place_offset values_of offset_of found_at found_values with_name or_at_end added stored first_from joined
   named h = go (interned (take used strings) room name) refl h
     where
       known : (i : ℕ) → first_from 0 names name ≡ Some i → NameStored room used strings name names (Ok (place.Known i))

@@ -12,7 +12,7 @@ use Rattle.fdt_bytes.specs.Padding.{zeros}
 use Rattle.std.specs.Prelude.{Option, Some, None, Ok, Err}
 use Rattle.fdt_strings.specs.declared.Interned.TheVariants as place
 use Rattle.fdt_strings.specs.Entries.{found_values, entry, find_string}
-use Rattle.fdt_strings.specs.Interned.{string_room, new_name, or_else, interned}
+use Rattle.fdt_strings.specs.Interned.{string_room, new_name, or_else, interned, values_of}
 use Rattle.fdt_strings.proofs.Entries.{PlainNames, no_entry}
 use Rattle.fdt_format.specs.Blob.{names_from, names_of, found_at, offset_of, structure_bytes, events_size, AllPlain}
 use Rattle.fdt_format.specs.Description.{Property, ◌≔◌}
@@ -95,7 +95,7 @@ module _ {numbers : List ℕ} {es : List Event} {boot : ℕ} {marks : List ℕ} 
 
   -- row 20 holds exactly when the open node has a property of the name
   pub repeated_exactly : (name : List ℕ) → (is_repeated s.writer s.blob (place_of s.writer s.strings name) ≡ true) ↔ Memᴰ name (open_names es)
-  unfolding own is_repeated is_known place_of place_offset interned or_else new_name offset_of found_at found_values Has
+  unfolding own is_repeated is_known place_of place_offset values_of interned or_else new_name offset_of found_at found_values Has
   repeated_exactly name = go (find_string (take s.writer.strings_used s.strings) name) refl
     where
       repeated : Option ℕ → Bool

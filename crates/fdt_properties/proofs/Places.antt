@@ -11,7 +11,7 @@ use Rattle.std.specs.Result.{result_or}
 use Rattle.fdt_strings.specs.declared.Interned.{Interned}
 use Rattle.fdt_strings.specs.declared.Interned.TheVariants.{Known, New}
 use Rattle.fdt_strings.specs.declared.StringRoom.{StringRoom}
-use Rattle.fdt_strings.specs.Interned.{interned}
+use Rattle.fdt_strings.specs.Interned.{interned, number_of, values_of}
 use Rattle.fdt_strings.proofs.Entries.{found-stands, stands-fits}
 use Rattle.fdt_strings.proofs.Places.{known_found, new-placed}
 use Rattle.fdt_format.specs.LookBack.{look_back}
@@ -32,7 +32,7 @@ pub record PlacePassed (w : Record) (blob : List ℕ) (p : Result Interned Strin
 -- what the tests of a name's place find: a name that has no room is in no property, so 20 and 15 exclude each other
 module _ (w : Record) (blob : List ℕ) (rows : List Row) where
   pub place_passed : (p : Result Interned StringRoom) (place : Interned) → tested_place p (is_repeated w blob p) ≡ Ok place → PlacePassed w blob p rows place
-  unfolding first is_full
+  unfolding first is_full number_of
   place_passed (Err full) place h = cc
   place_passed (Ok q) place h = go (is_repeated w blob (Ok q)) refl h
     where
@@ -41,7 +41,7 @@ module _ (w : Record) (blob : List ℕ) (rows : List Row) where
       go false e h = record { place_is = ap Ok cc; first_is = simp e }
 
   pub place_refused : (p : Result Interned StringRoom) (e : Error) → tested_place p (is_repeated w blob p) ≡ Err e → first ((is_repeated w blob p ⇒ error.DuplicateProperty) ∷ (is_full p ⇒ error.StringRoom) ∷ rows) ≡ Err e
-  unfolding first is_full is_repeated is_known
+  unfolding first is_full number_of is_repeated is_known
   place_refused (Err full) e h = cc
   place_refused (Ok q) e h = go (is_repeated w blob (Ok q)) refl h
     where
@@ -56,7 +56,7 @@ found_place e (Err full) h = cc
 
 -- a name that is known is in a property if the look back meets its offset
 pub known_place : (w : Record) (blob : List ℕ) {p : Result Interned StringRoom} {offset : ℕ} {b : Bool} → p ≡ Ok (Known offset) → b ≡ look_back blob w.blob_used offset w.node_start → tested_place p (is_repeated w blob p) ≡ cond b (Err error.DuplicateProperty) (Ok (Known offset))
-unfolding is_repeated is_known place_offset
+unfolding is_repeated is_known place_offset values_of
 known_place w blob e f = simp (e, f)
 
 -- the place of a name, known or new, in strings that the record fits
@@ -66,7 +66,7 @@ pub record Settled (w : Record) (strings name : List ℕ) (place : Result Intern
   pub used : w.strings_used + added place name ≤ w.strings_room
 
 pub settled : (w : Record) (strings name : List ℕ) → FitStrings w strings → Settled w strings name (place_of w strings name)
-unfolding place_of place_offset added
+unfolding place_of place_offset values_of added
 settled w strings name f = go (interned (take w.strings_used strings) w.strings_room name) refl
   where
     n : length (take w.strings_used strings) ≡ w.strings_used

@@ -1,6 +1,6 @@
 -- What `property` and the calls of its kinds answer and leave (document 01: property tests 18, 17, 2, 1, 5, 11, 15, 14;
 -- string and string list 18, 17, 5 for a value, then as property; document 02, request 4/14: 20 after 11 and before 15).
-use Rattle.std.specs.Prelude.{◌≡◌, Bool, true, false, not, ◌&&◌, List, [], ◌∷◌, ◌++◌, ℕ, ◌+◌, eqb, length, take, Result, Ok, Err}
+use Rattle.std.specs.Prelude.{◌≡◌, Bool, true, false, not, ◌&&◌, List, [], ◌∷◌, ◌++◌, ℕ, ◌+◌, eqb, length, take, get_or, Result, Ok, Err}
 use Rattle.fdt_bytes.specs.Splice.{splice}
 use Rattle.fdt_names.specs.Grammar.{matches}
 use Rattle.fdt_names.specs.Names.{property_name, has_zero}
@@ -8,7 +8,7 @@ use Rattle.fdt_strings.specs.declared.Interned.{Interned}
 use Rattle.fdt_strings.specs.declared.Interned.TheVariants.{Known, New}
 use Rattle.fdt_strings.specs.declared.StringRoom as no_room
 use Rattle.fdt_strings.specs.Entries.{entry}
-use Rattle.fdt_strings.specs.Interned.{interned}
+use Rattle.fdt_strings.specs.Interned.{interned, number_of, values_of}
 use Rattle.fdt_format.specs.LookBack.{look_back}
 use Rattle.fdt_format.specs.Tokens.{property_bytes}
 use Rattle.fdt_values.specs.Value.{Value, value_bytes, misfit_value, zero_value}
@@ -37,14 +37,11 @@ is_known (Err full) = false
 
 -- a new name and its 0 don't fit
 unfoldable pub is_full : Place → Bool
-is_full (Ok place) = false
-is_full (Err full) = true
+is_full p = eqb (number_of p) 15
 
 -- the name's offset: the value that its place has
 unfoldable pub place_offset : Place → ℕ
-place_offset (Ok (Known offset)) = offset
-place_offset (Ok (New offset)) = offset
-place_offset (Err full) = 0
+place_offset p = get_or (values_of p) 0 0
 
 -- the open node already has a property of the name: the name is stored, and the look back from where the node's properties start to the
 -- used length meets its offset

@@ -54,7 +54,7 @@ fn name_tests(w: Record, name: &[u8]) -> Result<(), Error>
 
 // The place of the name, or its refusal: 20 if the open node already has a property of it, 15 if it is new and has no room. A name
 // has one of these or neither, so that either may be tested first.
-#[tactic(auto, using(crate::proofs::Places::found_place, crate::proofs::Places::known_place), unfolding(crate::specs::Property::place_of, crate::specs::Property::is_repeated, crate::specs::Property::is_known, crate::specs::Property::place_offset))]
+#[tactic(auto, using(crate::proofs::Places::found_place, crate::proofs::Places::known_place), unfolding(crate::specs::Property::place_of, crate::specs::Property::is_repeated, crate::specs::Property::is_known, crate::specs::Property::place_offset, fdt_strings::specs::Interned::values_of))]
 fn place_of(w: Record, blob: &[u8], strings: &[u8], name: &[u8]) -> Result<Interned, Error>
     requires start { w.node_start ≤ w.blob_used }
     requires within { w.blob_used ≤ length blob.now }
@@ -72,7 +72,7 @@ fn place_of(w: Record, blob: &[u8], strings: &[u8], name: &[u8]) -> Result<Inter
 }
 
 // The offset of a name at its place.
-#[tactic(auto, unfolding(crate::specs::Property::place_offset))]
+#[tactic(auto, unfolding(crate::specs::Property::place_offset, fdt_strings::specs::Interned::values_of))]
 fn offset_of(place: Interned) -> usize
     ensures { result ≡ place_offset (Ok place) }
 {
@@ -129,7 +129,7 @@ fn property_tests(
 }
 
 // Stores a new name, with its 0.
-#[tactic(auto, unfolding(crate::specs::Property::stored, crate::specs::Property::added, crate::specs::Property::place_offset, fdt_strings::specs::Entries::entry))]
+#[tactic(auto, unfolding(crate::specs::Property::stored, crate::specs::Property::added, crate::specs::Property::place_offset, fdt_strings::specs::Interned::values_of, fdt_strings::specs::Entries::entry))]
 fn store_name(strings: &mut [u8], place: Interned, name: &[u8])
     requires { NameFits (Ok place) name.now strings.old }
     ensures { strings.new ≡ stored (Ok place) name.now strings.old }
