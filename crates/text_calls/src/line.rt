@@ -1,6 +1,6 @@
 // A line of a list: its call with what it is given.
 pub use crate::values::Strings;
-use crate::values::{Values, byte, cell, first_word, wide_cell};
+use crate::values::{MOST, MOST_CELLS, MOST_WIDE_CELLS, Values, byte, cell, first_word, wide_cell};
 use crate::verbs::{Kind, Verb};
 use std::alloc::{AllocError, AllocFailed, Global};
 use std::fmt;
@@ -143,7 +143,8 @@ impl<'a> Values<'a> {
 
     // A reservation: its address and its size.
     fn reservation(self) -> Result<Call<'a>, Wrong> {
-        match self.each(wide_cell)?.as_slice() {
+        // a third number is kept, so that it is noticed
+        match self.each(3, wide_cell)?.as_slice() {
             [address, size] => Ok(Call::Reserve {
                 address: *address,
                 size: *size,
@@ -167,9 +168,9 @@ impl<'a> Values<'a> {
                 self.none()?;
                 Ok(Value::Bytes(Vec::new(self.alloc)))
             }
-            Kind::Bytes => Ok(Value::Bytes(self.some(byte)?)),
-            Kind::U32 => Ok(Value::Cells(self.some(cell)?)),
-            Kind::U64 => Ok(Value::WideCells(self.some(wide_cell)?)),
+            Kind::Bytes => Ok(Value::Bytes(self.some(MOST, byte)?)),
+            Kind::U32 => Ok(Value::Cells(self.some(MOST_CELLS, cell)?)),
+            Kind::U64 => Ok(Value::WideCells(self.some(MOST_WIDE_CELLS, wide_cell)?)),
             Kind::String | Kind::Strings => self.string_value(kind),
         }
     }

@@ -1,13 +1,19 @@
 // The values of a line: numbers, bytes in two hexadecimal digits each, and strings in double quotes.
-ghost use Rattle.std.specs.Prelude.{◌≡◌, ◌≤◌, ◌<◌, length, sum, vec_len, IfSome, IfOk};
+ghost use Rattle.std.specs.Prelude.{◌≡◌, ◌+◌, ◌≤◌, ◌<◌, length, sum, vec_len, IfSome, IfOk};
 
 use crate::line::Wrong;
 use crate::verbs::Verb;
 use std::alloc::Global;
 use text_words::{digit, number};
 
-// The most strings of a line, and the most bytes in them, that are kept. No blob has room for so many.
-const MOST: usize = 65_536;
+// The most bytes that the values of a line take, and the most strings of a line, that are kept. No blob has room for so many.
+pub(crate) const MOST: usize = 65_536;
+
+// The most numbers of 4 bytes that are kept.
+pub(crate) const MOST_CELLS: usize = MOST / 4;
+
+// The most numbers of 8 bytes that are kept.
+pub(crate) const MOST_WIDE_CELLS: usize = MOST / 8;
 
 // Strings: their bytes one after the other, and how many of them each has.
 #[derive(Drop)]
@@ -16,6 +22,7 @@ pub struct Strings {
     pub lengths: Vec<usize>,
 
     ghost joined: { sum lengths.items ≡ vec_len bytes },
+    ghost kept: { (vec_len bytes ≤ 65536) × (vec_len lengths ≤ 65536) },
 }
 
 // What a line gives to its call.
@@ -40,34 +47,43 @@ impl Values<'_> {
         }
     }
 
-    // Each word up to a comment as a value.
-    pub(crate) fn each<T: Drop, F: Fn(&[u8]) -> Option<T>>(self, read: F) -> Result<Vec<T>, Wrong>
+    // Each word up to a comment as a value. The first values are kept, at most so many.
+    pub(crate) fn each<T: Drop, F: Fn(&[u8]) -> Option<T>>(
+        self,
+        most: usize,
+        read: F,
+    ) -> Result<Vec<T>, Wrong>
     where
         F: Drop,
         requires { F.IsAlwaysCallable read }
+        ensures { IfOk result (λ v. vec_len v ≤ most) }
     {
         let mut values = Vec::new(self.alloc);
-        for word in self.text.split(|b| blank(*b)) {
-            if word.starts_with(b"#") {
-                break;
-            }
-            if !word.is_empty() {
-                let Some(value) = read(word) else {
-                    return Err(self.wrong());
-                };
+        let mut rest = self.text;
+        while let Some((word, after)) = next_word(rest) {
+            let Some(value) = read(word) else {
+                return Err(self.wrong());
+            };
+            if values.len() < most {
                 values.push(value)?;
             }
+            rest = after;
         }
         Ok(values)
     }
 
     // The same, at least one.
-    pub(crate) fn some<T: Drop, F: Fn(&[u8]) -> Option<T>>(self, read: F) -> Result<Vec<T>, Wrong>
+    pub(crate) fn some<T: Drop, F: Fn(&[u8]) -> Option<T>>(
+        self,
+        most: usize,
+        read: F,
+    ) -> Result<Vec<T>, Wrong>
     where
         F: Drop,
         requires { F.IsAlwaysCallable read }
+        ensures { IfOk result (λ v. vec_len v ≤ most) }
     {
-        let values = self.each(read)?;
+        let values = self.each(most, read)?;
         if values.is_empty() {
             return Err(self.wrong());
         }
@@ -76,7 +92,8 @@ impl Values<'_> {
 
     // One number of 4 bytes.
     pub(crate) fn one(self) -> Result<u32, Wrong> {
-        match self.each(cell)?.as_slice() {
+        // a second number is kept, so that it is noticed
+        match self.each(2, cell)?.as_slice() {
             [n] => Ok(*n),
             _ => Err(self.wrong()),
         }
@@ -104,8 +121,10 @@ impl Values<'_> {
 
     // Adds the string at the front of a text to bytes, as far as they are kept, and returns what follows its closing quote and blanks.
     fn string<'a>(self, text: &'a [u8], bytes: &mut Vec<u8>) -> Result<&'a [u8], Wrong>
+        requires { vec_len bytes.old ≤ 65536 }
         ensures rest { IfOk result (λ r. length r.now ≤ length text.now) }
         ensures longer { vec_len bytes.old ≤ vec_len bytes.new }
+        ensures kept { vec_len bytes.new ≤ 65536 }
     {
         let mut rest = text;
         loop {
@@ -149,10 +168,22 @@ fn trimmed(text: &[u8]) -> &[u8]
 }
 
 // The first word of a text, and what follows it.
-pub(crate) fn first_word(text: &[u8]) -> (&[u8], &[u8]) {
+pub(crate) fn first_word(text: &[u8]) -> (&[u8], &[u8])
+    ensures { length result.0.now + length result.1.now ≤ length text.now }
+{
     let text = trimmed(text);
     let end = text.iter().position(|b| blank(*b));
     text.split_at(end.unwrap_or(text.len()))
+}
+
+// The first word of a text and what follows it, unless the text has none before its end or a comment.
+fn next_word(text: &[u8]) -> Option<(&[u8], &[u8])>
+    ensures { IfSome result (λ r. length r.1.now < length text.now) }
+{
+    match first_word(text) {
+        ([] | [b'#', ..], _) => None,
+        found => Some(found),
+    }
 }
 
 // A number of 8 bytes.
