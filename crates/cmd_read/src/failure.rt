@@ -35,7 +35,9 @@ impl Display for Failure {
                 write!(f, "refused {number} at {place}: {cause}")
             }
             Failure::Unwritten => f.write_str("the output cannot be written"),
-            Failure::OutOfMemory => f.write_str("out of memory"),
+            Failure::Unread(input::Refused::OutOfMemory) | Failure::OutOfMemory => {
+                f.write_str("out of memory")
+            }
         }
     }
 }

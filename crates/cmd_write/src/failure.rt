@@ -51,7 +51,9 @@ impl Display for Failure<'_> {
             }
             Failure::Line { line, cause } => write!(f, "line {line}: {cause}"),
             Failure::Unwritten => f.write_str("the blob cannot be written"),
-            Failure::OutOfMemory => f.write_str("out of memory"),
+            Failure::Unread(Refused::OutOfMemory) | Failure::OutOfMemory => {
+                f.write_str("out of memory")
+            }
         }
     }
 }

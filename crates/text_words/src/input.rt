@@ -2,13 +2,14 @@
 ghost use Rattle.std.specs.Prelude.{◌<◌, ◌≤◌, vec_len, IfOk};
 
 use std::alloc::AllocError;
-use std::io::Read;
+use std::io::{ErrorKind, Read};
 
 // Why an input is not taken.
 #[derive(Clone, Copy, PartialEq, Eq, Debug)]
 pub enum Refused {
     Unreadable,
     TooLong,
+    OutOfMemory,
 }
 
 // Reads standard input to its end, if it has fewer than `limit` bytes.
@@ -19,6 +20,7 @@ pub fn read<R: Input + AllocGlobal>(rt: &R, limit: usize) -> Result<Vec<u8>, Ref
     match rt.reader().take(limit as u64).read_to_end(&mut input) {
         Ok(_) if input.len() < limit => Ok(input),
         Ok(_) => Err(Refused::TooLong),
+        Err(error) if error.kind() == ErrorKind::OutOfMemory => Err(Refused::OutOfMemory),
         Err(_) => Err(Refused::Unreadable),
     }
 }
