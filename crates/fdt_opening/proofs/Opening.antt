@@ -20,6 +20,7 @@ use Rattle.std.specs.Prelude.{Ok, Err, is_err, cond}
 use Rattle.fdt_reserve.specs.declared.FdtReserveEntry.{FdtReserveEntry}
 use Rattle.fdt_reserve.specs.Entry.{Reserved, invalid, invalid_reservation, reserved}
 use Rattle.fdt_record.specs.declared.Error.{Error}
+use Rattle.fdt_record.specs.declared.Outcome.{Outcome}
 use Rattle.fdt_record.specs.declared.Record.{Record}
 use Rattle.fdt_record.specs.Answers.{Done, accepts}
 use Rattle.fdt_record.specs.Limits.{blob_ceiling, most_reservations, usable}
@@ -114,6 +115,14 @@ module _ (blob : List ℕ) (strings phandles : ℕ) (numbers : List ℕ) where
     result = ap (λ (x : Record). record { answer = Done; after = x }) f ∙ outcome-accepted _ _ e;
     bytes = w ∙ sym (accepted-blob e);
   }
+
+-- Any two outcomes of a call coincide.
+module _ {blob : List ℕ} {strings phandles : ℕ} {numbers : List ℕ} {r s : Outcome (Unit {0})} {a b : List ℕ} (one : OpeningOutcome blob strings phandles numbers r a) (other : OpeningOutcome blob strings phandles numbers s b) where
+  pub same-result : r ≡ s
+  same-result = one.result ∙ sym other.result
+
+  pub same_bytes : a ≡ b
+  same_bytes = one.bytes ∙ sym other.bytes
 
 -- Reservation k, as read from the list, is refused exactly if the definition's test holds.
 module _ (numbers : List ℕ) (k : ℕ) (entry : FdtReserveEntry) (answer : Reserved) (read : entry ≡ entry_at numbers k) (made : answer ≡ reserved entry.address entry.size) where

@@ -179,7 +179,7 @@ module _ (xs ys : List ℕ) (same : SameUsable blob_ceiling xs ys) where
       same-property =
           append-same (first_rows (length xs) ss) (first_rows (length ys) ts) (place_rows w xs ss name v) (place_rows w ys ts name v)
           same-state
-          (λ e. let f = first_fits w (length xs) ss name (misfit_value v) (zero_value v) (accepts-done _ e) in same_places f.blob f.strings)
+          (λ e. let f = first_fits w (length xs) ss name (misfit_value v) (zero_value v) (accepts-done _ e) in same_places f.blob_fits f.names)
 
       -- equal if the call is accepted, so equal
       accepted-same : {A : Type 0} (x x' y : A) → (accepts (property_answer w xs ss name v) ≡ true → x ≡ x') → upon (property_answer w xs ss name v) x y ≡ upon (property_answer w ys ts name v) x' y

@@ -12,18 +12,22 @@ use Rattle.fdt_record.specs.declared.Record.{Record}
 use Rattle.fdt_record.specs.Answers.{Done}
 use Rattle.fdt_record.specs.Rows.{first}
 use Rattle.fdt_record.specs.Tests.{alone_rows, blob_rows, strings_rows}
-use Rattle.fdt_record.proofs.FirstTests.{StringsPassed}
 use Rattle.fdt_record.proofs.Fits.{FitRecord, fit_record, FitBlob, fit_blob, FitStrings, fit_strings, not_overfull}
 use Rattle.fdt_record.proofs.Rows.{ByName, by_name, Exactly, exactly}
 use Rattle.fdt_properties.specs.Property.{place_of, is_full, is_repeated, written, property_record, state_rows, name_rows, place_rows, property_rows, property_answer}
 
--- where the tests that do not search the strings are passed, the record fits
-pub first_fits : (w : Record) (lent : ℕ) (strings name : List ℕ) (misfit zero : Bool) → first (state_rows w lent strings misfit zero ++ name_rows name) ≡ Done → StringsPassed w lent strings
+-- what the tests passed that do not search the strings
+pub record FirstFits (w : Record) (lent : ℕ) (strings : List ℕ) (misfit : Bool) : Type 0 where
+  pub blob_fits : FitBlob w lent
+  pub names : FitStrings w strings
+  pub in_order : misfit ≡ false
+
+pub first_fits : (w : Record) (lent : ℕ) (strings name : List ℕ) (misfit zero : Bool) → first (state_rows w lent strings misfit zero ++ name_rows name) ≡ Done → FirstFits w lent strings misfit
 unfolding state_rows strings_rows blob_rows alone_rows name_rows ByName
 first_fits w lent strings name misfit zero told =
     by_name (state_rows w lent strings misfit zero ++ name_rows name) ((exactly _).accepted.0 told)
     (λ unfinished figures blob stored wrong plain ended outside text named.
-    record { blob = fit_blob w lent blob; strings = fit_strings w strings stored })
+    record { blob_fits = fit_blob w lent blob; names = fit_strings w strings stored; in_order = wrong })
 
 module _ (w : Record) (blob strings name : List ℕ) (v : Value) where
   pub property_exactly : Exactly (property_rows w blob strings name v) (property_answer w blob strings name v)

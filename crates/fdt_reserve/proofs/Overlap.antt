@@ -134,6 +134,9 @@ module _ (numbers : List ℕ) where
   abbrev pub Clear : ℕ → ℕ → Type 0
   Clear k m = (l : ℕ) → k < l → l < m → meets k l ≡ false
 
+  pub clear_none : (k : ℕ) → Clear k (k + 1)
+  clear_none k l p q = absurd (omega arith)
+
   pub clear_more : (k m : ℕ) → Clear k m → meets k m ≡ false → Clear k (m + 1)
   clear_more k m h e l p q = below_more (λ (n : ℕ). k < n → meets k n ≡ false) m (λ n u v. h n v u) (λ v. e) l q p
 
