@@ -1,0 +1,18 @@
+-- `end_node` meets its contract: it is the writer's own call, in place.
+use Rattle.fdt_face.proofs.Names.{refl, [], ◌∷◌, id⊢, unasked, val_of, in_place, by_local, named, u8, mut_slice_vals, mut_slice_Tells, struct, lent_slice, answered_unit}
+use denote.Struct.Laws as LL
+use Rattle.fdt_nodes.specs.contracts.FdtWriterNode as N
+use Rattle.fdt_nodes.proofs.FdtWriterNode.TheLaws as N'
+use Rattle.fdt_writer.specs.contracts.FdtWriter.end_node as core
+use Rattle.fdt_writer.proofs.FdtWriter.end_node.Symbol.{name as #core}
+use Rattle.fdt_writer.proofs.FdtWriter.end_node.Met as core-thm
+use Rattle.fdt_face.specs.contracts.end_node.Key.{name as #self}
+use Rattle.fdt_face.specs.contracts.end_node as f
+use Rattle.fdt_face.proofs.end_node.Statement as stated
+use Rattle.fdt_face.proofs.end_node.Code as code
+
+pub end_node_spec : {M : Type 1} → stated.statement M
+end_node_spec 𝓤 𝓛 𝓜 𝓡 wired =
+    in_place 1 [] _ _ _ 𝓛 𝓜 𝓡 (f.clauses 𝓛 𝓜.mem 𝓡.returns) (λ κs. (mut_slice_vals, (LL.vals N.the_type N'.the_laws, tt))) code.function answered_unit #core by_local core.ended (core.clauses 𝓛 𝓜.mem 𝓡.returns)
+    𝓡.env #self (𝓡.env #core) (code.unfolded 𝓤 𝓛.H 𝓜 𝓡 wired) refl (core-thm.met 𝓤 𝓛 𝓜 𝓡 (code.calls-fdt_writer::FdtWriter::end_node 𝓡.env wired)) (λ κs. (mut_slice_Tells (named 1) κs.1.0 u8, (LL.tells N.the_type N'.the_laws, tt)))
+    (λ κs qs w a g are. (lent_slice (named 1) κs.1.0 u8 a.0 are.0 ∷ struct N.the_type N'.the_laws a.1.0 are.1.0 ∷ [], ((κs.1, qs.1, tt, (w.now, a), (val_of w.now ∷ [], (mut_slice_vals a.0, (LL.vals N.the_type N'.the_laws a.1.0, tt)))), tt), refl, refl, refl, unasked 𝓤 _, λ x. x.0, λ x. x.0.answer, λ x. x.1.1, λ x u. id⊢ 𝓤 _, λ x v. id⊢ 𝓤 _, λ x. id⊢ 𝓤 _))
