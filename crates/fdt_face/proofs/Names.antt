@@ -9,4 +9,4 @@ pub use Rattle.fdt_face.proofs.InPlace.{unasked}
 pub use Rattle.fdt_face.proofs.Lending.{shared_slice, struct, lent_slice}
 pub use Rattle.fdt_face.proofs.Thin.{val_of, by_local}
 pub use Rattle.fdt_face.proofs.Meets.{in_place}
-pub use Rattle.fdt_face.proofs.Returned.{answered_unit}
+pub use Rattle.fdt_face.proofs.Returned.{answered_unit, answered_node}

@@ -20,6 +20,8 @@ use Rattle.std.specs.contracts.result.Result as O
 use Rattle.std.proofs.result.Result.TheLaws as O'
 use Rattle.fdt_record.specs.contracts.Error as E
 use Rattle.fdt_record.proofs.Error.TheLaws as E'
+use Rattle.fdt_nodes.specs.contracts.FdtWriterNode as N
+use Rattle.fdt_nodes.proofs.FdtWriterNode.TheLaws as N'
 use Rattle.fdt_writer.specs.contracts.Answered as B
 use Rattle.fdt_writer.proofs.Answered.TheLaws as B'
 use Rattle.fdt_writer.proofs.FdtWriter.TheLaws as W'
@@ -50,3 +52,7 @@ answered T L t pl past answer_at writer_at = record {
 -- an `Answered<()>`
 abbrev pub answered_unit : Results
 answered_unit = answered unit (of_field unit-field LL.unit-laws refl (copy_shared unit-field LL.unit-copy)) (field_told unit-field LL.unit-laws) LL.unit-plain _ refl refl
+
+-- an `Answered<FdtWriterNode>`
+abbrev pub answered_node : Results
+answered_node = answered N.the_row N'.the_row_laws N'.the_told N'.the_row_plain _ refl refl
