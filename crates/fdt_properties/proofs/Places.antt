@@ -49,6 +49,11 @@ module _ (w : Record) (blob : List ℕ) (rows : List Row) where
       go true f h = simp f (cc)
       go false f h = cc
 
+-- where there is no room, the offset is 0
+pub offset_none : (full : StringRoom) → place_offset (Err full) ≡ 0
+unfolding place_offset values_of
+offset_none full = refl
+
 -- a place that has no refusal is the one that was found
 pub found_place : (e : Error) {place : Interned} (p : Result Interned StringRoom) → result_or p (Err e) ≡ Ok place → p ≡ Ok place
 found_place e (Ok q) h = cc
